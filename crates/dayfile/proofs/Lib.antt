@@ -1,0 +1,5 @@
+pub mod Plain
+pub mod Bodies
+pub mod Records
+pub mod Files
+pub mod Meaning

@@ -1,0 +1,5 @@
+pub mod Layers
+pub mod Faults
+pub mod Outcome
+pub mod Seen
+pub mod File
