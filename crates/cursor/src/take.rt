@@ -101,7 +101,7 @@ impl<'a> Cursor<'a> {
         ensures len { λ r. ⌜ length (now r) + now (self .entry) .at ≡ length (now (now (self .entry) .bytes)) ⌝ }
     {
         let bytes = self.bytes;
-        let at = self.at;
-        &bytes[at..]
+        let (_, rest) = bytes.split_at(self.at);
+        rest
     }
 }

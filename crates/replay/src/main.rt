@@ -18,12 +18,10 @@ fn read_input(rt: &LibcRuntime) -> io::Result<Vec<u8>> {
     Ok(file)
 }
 
-// A faulty file ends the program with status 1, once all is printed.
-fn main(rt: LibcRuntime) -> Result<(), AnyError> {
-    let file = read_input(&rt)?;
-    let mut printer = Printer::new(&rt);
-    let answer = read_file(file.as_slice(), &mut printer);
-    match answer {
+fn run(rt: &LibcRuntime) -> Result<(), AnyError> {
+    let file = read_input(rt)?;
+    let mut printer = Printer::new(rt);
+    match read_file(file.as_slice(), &mut printer) {
         Ok(()) => {
             printer.finish()?;
             Ok(())
@@ -34,4 +32,9 @@ fn main(rt: LibcRuntime) -> Result<(), AnyError> {
             Err("the file is faulty".into())
         }
     }
+}
+
+// A faulty file, or a failure to read or print, ends the program with status 1.
+fn main(rt: LibcRuntime) -> Result<(), AnyError> {
+    rt.report(run(&rt))
 }

@@ -1,0 +1,3 @@
+pub mod BondRules
+pub mod Reach
+pub mod Same

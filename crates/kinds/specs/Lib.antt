@@ -1,0 +1,3 @@
+pub mod Amounts
+pub mod Bonds
+pub mod Guarantees
