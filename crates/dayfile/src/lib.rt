@@ -16,6 +16,8 @@ pub use fault::RecordFault;
 pub use fault::RecordFaultFromShort;
 pub use fault::RecordFaultFromUnread;
 pub use fault::Told;
+pub use fault::ToldDebug;
+pub use fault::ToldPartialEq;
 pub use file::Sink;
 pub use file::read_file;
 pub use instruction::Instruction;
