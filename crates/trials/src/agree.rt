@@ -12,13 +12,13 @@ use std::alloc::Global;
 use std::test::*;
 
 /// The reader finds what is expected, both record by record and through a sink.
-pub fn reader_finds(expected: &Found, file: &[u8], heap: Global) -> Result<(), Fail> {
+pub(crate) fn reader_finds(expected: &Found, file: &[u8], heap: Global) -> Result<(), Fail> {
     same(&one_by_one(file, heap)?, expected).note("one by one")?;
     same(&handed_over(file, heap)?, expected).note("handed over")
 }
 
 /// Both readers find the same records, which are so many, and then the fault, or none.
-pub fn both_find(
+pub(crate) fn both_find(
     file: &[u8],
     records: usize,
     fault: Option<Told>,
@@ -31,7 +31,7 @@ pub fn both_find(
 }
 
 /// The fault and the number of records come first: a failure that names them says more than a long record.
-pub fn same(found: &Found, expected: &Found) -> Result<(), Fail> {
+pub(crate) fn same(found: &Found, expected: &Found) -> Result<(), Fail> {
     check_eq(found.fault, expected.fault)?;
     check_eq(found.records.len(), expected.records.len())?;
     let pairs = found.records.iter().zip(expected.records.iter());

@@ -6,7 +6,7 @@ pub struct Dice {
 
 impl Dice {
     /// The state never becomes 0, where it would stay.
-    pub fn new() -> Dice {
+    pub(crate) fn new() -> Dice {
         Dice {
             state: 0x9e37_79b9_7f4a_7c15,
         }
@@ -22,13 +22,13 @@ impl Dice {
     }
 
     /// A number below the bound, or 0 where there is none.
-    pub fn below(&mut self, bound: usize) -> usize {
+    pub(crate) fn below(&mut self, bound: usize) -> usize {
         let rolled = self.next() as usize >> 8;
         rolled.checked_rem(bound).unwrap_or(0)
     }
 
     /// A byte below the bound, which is at most 256.
-    pub fn byte_below(&mut self, bound: usize) -> u8 {
+    pub(crate) fn byte_below(&mut self, bound: usize) -> u8 {
         (self.below(bound) & 0xff) as u8
     }
 }

@@ -23,7 +23,7 @@ pub const KINDS: [(u8, usize); 16] = [
 ];
 
 /// A file with one record, whose fields are zeros. No memo has a zero, so a byte of a field that is read as one shows.
-pub fn one_record(
+pub(crate) fn one_record(
     kind: u8,
     width: usize,
     memo: &[u8],
@@ -37,7 +37,7 @@ pub fn one_record(
 }
 
 /// Puts a record with its length at the end of a file.
-pub fn put_record(
+pub(crate) fn put_record(
     file: &mut Vec<u8>,
     kind: u8,
     fields: &[u8],

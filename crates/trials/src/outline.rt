@@ -23,7 +23,7 @@ pub struct Found {
 
 impl Outline {
     /// The memo's length is kept beside its first 64 bytes, so that a longer one does not go unseen.
-    pub fn new(kind: u8, fields: [u64; 8], memo: &[u8], memo_place: usize) -> Outline {
+    pub(crate) fn new(kind: u8, fields: [u64; 8], memo: &[u8], memo_place: usize) -> Outline {
         let mut kept = [0; MEMO_MOST];
         for (slot, byte) in kept.iter_mut().zip(memo.iter()) {
             *slot = *byte;

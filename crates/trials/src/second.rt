@@ -28,13 +28,13 @@ const WIDTHS: [&'static [usize]; 16] = [
 ];
 
 /// The widths of a kind's fields; `None` where no kind has the number.
-pub fn widths_of(kind: u8) -> Option<&'static [usize]> {
+pub(crate) fn widths_of(kind: u8) -> Option<&'static [usize]> {
     let row = usize::from(kind).checked_sub(1)?;
     WIDTHS.get(row).copied()
 }
 
 /// What the file says, by the second reader.
-pub fn second_reading(file: &[u8], heap: Global) -> Result<Found, AllocError> {
+pub(crate) fn second_reading(file: &[u8], heap: Global) -> Result<Found, AllocError> {
     let mut records = Vec::new(heap);
     let fault = read_all(file, &mut records)?;
     Ok(Found { records, fault })

@@ -34,7 +34,7 @@ impl Sink for Taken as TakenSink {
 }
 
 /// What `read_file` hands to a sink, and its answer.
-pub fn handed_over(file: &[u8], heap: Global) -> Result<Found, AllocError> {
+pub(crate) fn handed_over(file: &[u8], heap: Global) -> Result<Found, AllocError> {
     let mut taken = Taken {
         records: Vec::new(heap),
         lost: false,
@@ -50,7 +50,7 @@ pub fn handed_over(file: &[u8], heap: Global) -> Result<Found, AllocError> {
 }
 
 /// What a `Reader` gives, asked again and again.
-pub fn one_by_one(file: &[u8], heap: Global) -> Result<Found, AllocError> {
+pub(crate) fn one_by_one(file: &[u8], heap: Global) -> Result<Found, AllocError> {
     let mut records = Vec::new(heap);
     let fault = told_by(ask_all(file, &mut records)?);
     Ok(Found { records, fault })
@@ -80,7 +80,7 @@ fn told_by(answer: Result<(), Fault>) -> Option<Told> {
 }
 
 /// The outline of a record that the reader gave.
-pub fn outline_of(record: &Record<'_>) -> Outline {
+pub(crate) fn outline_of(record: &Record<'_>) -> Outline {
     let (kind, fields) = fields_of(&record.instruction);
     Outline::new(kind, fields, record.memo.bytes, record.memo.place)
 }
