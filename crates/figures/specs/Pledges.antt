@@ -6,7 +6,7 @@ use Rattle.kinds.specs.Bonds.{bonded}
 use Rattle.kinds.specs.Guarantees.{guaranteed}
 use Rattle.kinds.specs.declared.bond.Bond.{Bond}
 use Rattle.kinds.specs.declared.guarantee.Guarantee.{Guarantee}
-use Rattle.figures.specs.declared.PledgeFigures.{PledgeFigures}
+use Rattle.figures.specs.declared.pledges.PledgeFigures.{PledgeFigures}
 
 -- a block sells for 95,000 dollars
 abbrev pub block-price : ℕ

@@ -1,11 +1,11 @@
 // Files made by chance: good ones, good ones that were damaged, and bytes with no order.
 use super::agree::both_find;
 use super::agree::reader_finds;
-use super::dice::Dice;
 use super::made::KINDS;
 use super::made::put_record;
 use super::outline::Found;
 use super::second::second_reading;
+use crate::dice::Dice;
 use std::alloc::AllocError;
 use std::alloc::Global;
 use std::test::*;
@@ -14,11 +14,11 @@ use std::test::*;
 fn good_file(dice: &mut Dice, records: usize, heap: Global) -> Result<Vec<u8>, AllocError> {
     let mut file = vec![in heap; 1]?;
     for _ in 0..records {
-        let (kind, width) = KINDS.get(dice.below(16)).copied().unwrap_or((11, 0));
+        let (kind, width) = KINDS.get(dice.index_below(16)).copied().unwrap_or((11, 0));
         let fields = some_bytes(dice, width, 0, 256, heap)?;
         // Now and then the longest memo.
-        let longest = dice.below(8) == 0;
-        let memo_length = if longest { 64 } else { dice.below(10) };
+        let longest = dice.index_below(8) == 0;
+        let memo_length = if longest { 64 } else { dice.index_below(10) };
         let memo = some_bytes(dice, memo_length, 33, 94, heap)?;
         put_record(&mut file, kind, &fields, &memo)?;
     }
@@ -35,14 +35,14 @@ fn some_bytes(
 ) -> Result<Vec<u8>, AllocError> {
     let mut bytes = Vec::new(heap);
     for _ in 0..count {
-        bytes.push(dice.byte_below(choices).wrapping_add(low))?;
+        bytes.push(dice.byte_below(choices as u64).wrapping_add(low))?;
     }
     Ok(bytes)
 }
 
 /// One byte of the file becomes another.
 fn with_a_change(dice: &mut Dice, mut file: Vec<u8>) -> Vec<u8> {
-    if let Some(byte) = file.get_mut(dice.below(file.len())) {
+    if let Some(byte) = file.get_mut(dice.index_below(file.len())) {
         *byte = dice.byte_below(256);
     }
     file
@@ -50,16 +50,16 @@ fn with_a_change(dice: &mut Dice, mut file: Vec<u8>) -> Vec<u8> {
 
 /// Only a part from the start is left.
 fn cut_off(dice: &mut Dice, mut file: Vec<u8>) -> Vec<u8> {
-    file.truncate(dice.below(file.len()));
+    file.truncate(dice.index_below(file.len()));
     file
 }
 
 /// Up to four bytes more in the middle.
 fn with_more(dice: &mut Dice, file: Vec<u8>, heap: Global) -> Result<Vec<u8>, AllocError> {
-    let (front, back) = file.split_at_checked(dice.below(file.len()))
+    let (front, back) = file.split_at_checked(dice.index_below(file.len()))
         .unwrap_or((&[], &[]));
     let mut longer = front.to_vec(heap)?;
-    let count = dice.below(4).wrapping_add(1);
+    let count = dice.index_below(4).wrapping_add(1);
     longer.extend_from_slice(&some_bytes(dice, count, 0, 256, heap)?)?;
     longer.extend_from_slice(back)?;
     Ok(longer)
@@ -68,14 +68,14 @@ fn with_more(dice: &mut Dice, file: Vec<u8>, heap: Global) -> Result<Vec<u8>, Al
 /// Bytes with no order, most of them low, so that lengths and kinds are often possible; the version is mostly there.
 fn no_order(dice: &mut Dice, heap: Global) -> Result<Vec<u8>, AllocError> {
     let mut file = Vec::new(heap);
-    let version = if dice.below(8) == 0 {
+    let version = if dice.index_below(8) == 0 {
         dice.byte_below(256)
     } else {
         1
     };
     file.push(version)?;
-    for _ in 0..dice.below(40) {
-        let byte = match dice.below(4) {
+    for _ in 0..dice.index_below(40) {
+        let byte = match dice.index_below(4) {
             0 | 1 => 0,
             2 => dice.byte_below(20),
             _ => dice.byte_below(256),
@@ -87,7 +87,7 @@ fn no_order(dice: &mut Dice, heap: Global) -> Result<Vec<u8>, AllocError> {
 
 /// The file of a round: the five ways take turns.
 fn file_of(round: usize, dice: &mut Dice, heap: Global) -> Result<Vec<u8>, AllocError> {
-    let records = dice.below(9);
+    let records = dice.index_below(9);
     let file = good_file(dice, records, heap)?;
     match round % 5 {
         0 => Ok(file),
@@ -126,7 +126,7 @@ impl Tally {
 #[test]
 fn both_agree_on_files_made_by_chance(rt: LibcRuntime) -> Result<(), Fail> {
     let heap = rt.alloc();
-    let mut dice = Dice::new();
+    let mut dice = Dice::new(20_261_118);
     let mut tally = Tally {
         good: 0,
         faults: [0; 5],
@@ -148,9 +148,9 @@ fn both_agree_on_files_made_by_chance(rt: LibcRuntime) -> Result<(), Fail> {
 #[test]
 fn good_files_are_read_whole(rt: LibcRuntime) -> Result<(), Fail> {
     let heap = rt.alloc();
-    let mut dice = Dice::new();
+    let mut dice = Dice::new(81_116_202);
     for round in 0..500 {
-        let records = dice.below(100);
+        let records = dice.index_below(100);
         let file = good_file(&mut dice, records, heap)?;
         both_find(&file, records, None, heap).note(format_args!("file {round}"))?;
     }

@@ -1,0 +1,4 @@
+mod Digits
+mod Operators
+pub mod Bits
+pub mod Words

@@ -1,0 +1,4 @@
+pub mod Slots
+pub mod Kept
+pub mod Prices
+pub mod Causes
