@@ -14,14 +14,14 @@ use Rattle.lending.specs.declared.account.Account.{Account}
 use Rattle.lending.specs.Measures.{floor-of, target-of}
 use Rattle.pledge.specs.Numbers.{Numbers}
 use Rattle.shelf.specs.declared.held.Held.{Held}
-use Rattle.shelf.specs.Limits.{most-places}
+use Rattle.shelf.specs.Limits.{shelf-places}
 use Rattle.shelf.specs.Places.{cover-of}
 use Rattle.table.specs.declared.refusal.Refusal.{Refusal}
 use Rattle.table.specs.declared.refusal.Refusal.the-variants.{NoSuchPlace, PlaceEmpty}
 use Rattle.table.specs.declared.table.Table.{Table}
 use Rattle.table.specs.Act.{Answered, first as first-cause}
 use Rattle.table.specs.Tables.{account-at, price-at, taken}
-use Rattle.table.specs.Accounts.{places, owed-of, applied-of, barred-of, balance-of}
+use Rattle.table.specs.Accounts.{account-places, owed-of, applied-of, barred-of, balance-of}
 use Rattle.book.specs.declared.statement.Statement.{Statement}
 
 -- the price of the account's security
@@ -58,11 +58,11 @@ statement-of t account pledged = stated t (account-at t account) pledged
 
 -- shelves of so many places
 abbrev pub cut : ℕ → ℕ → Bool
-cut first second = not (eqb first most-places) || not (eqb second most-places)
+cut first second = not (eqb first shelf-places) || not (eqb second shelf-places)
 
 abbrev pub statement-causes : Table → ℕ → ℕ → ℕ → List (Bool × Refusal)
 statement-causes t first second account =
-    (cut first second || leb places account, NoSuchPlace)
+    (cut first second || leb account-places account, NoSuchPlace)
     ∷ (not (taken (account-at t account)), PlaceEmpty)
     ∷ []
 

@@ -1,6 +1,6 @@
 ghost use mathlib.Core.Path.{_≡_};
 ghost use Rattle.table.specs.Tables.{blank-table};
-ghost use Rattle.table.specs.Sound.{Dated, Sized, Priced, Loans, Balances, Terms, Earnings, Held, Noticed, Idle};
+ghost use Rattle.table.specs.Sound.{Dated, Sized, Prices-bounded, Loans, Balances, Terms, Earnings, Slips-held, Noticed, Idle};
 use table::Table;
 
 mod calls;
@@ -12,12 +12,12 @@ pub struct Book {
     table: Table,
     ghost dated: { Dated table },
     ghost sized: { Sized table },
-    ghost priced: { Priced table },
+    ghost priced: { Prices-bounded table },
     ghost loans: { Loans table },
     ghost balances: { Balances table },
     ghost terms: { Terms table },
     ghost earnings: { Earnings table },
-    ghost held: { Held table },
+    ghost held: { Slips-held table },
     ghost noticed: { Noticed table },
     ghost idle: { Idle table },
 }

@@ -3,13 +3,13 @@ ghost use mathlib.Core.Path.{_≡_};
 ghost use Prim.Native.Nat.{_+_, _≤_};
 ghost use lib.ListN.{length};
 ghost use Rattle.cursor.specs.Bytes.{be32};
-ghost use Rattle.instruction.specs.Prices.{Priced};
+ghost use Rattle.instruction.specs.Prices.{Eight-prices};
 
 const PART: usize = 32;
 
 /// The eight prices that a part of 32 bytes holds; `None` where it has another length.
 pub fn read_prices(part: &[u8]) -> Option<[u32; 8]>
-    ensures { λ r. ⌜ Priced r (now (part .entry)) ⌝ }
+    ensures { λ r. ⌜ Eight-prices r (now (part .entry)) ⌝ }
 {
     if part.len() != PART {
         return None;

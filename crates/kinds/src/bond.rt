@@ -1,5 +1,5 @@
 ghost use Prim.Native.Nat.{_≤_};
-ghost use Rattle.pledge.specs.Limits.{last-day};
+ghost use Rattle.pledge.specs.Limits.{last-expiry};
 ghost use Rattle.kinds.specs.Amounts.{top-blocks};
 
 /// Bonds: `blocks` blocks can still be sold, up to and on the expiry day.
@@ -7,6 +7,6 @@ ghost use Rattle.kinds.specs.Amounts.{top-blocks};
 pub struct Bond {
     pub(crate) expiry: u16,
     pub(crate) blocks: u16,
-    ghost days: { expiry ≤ last-day },
+    ghost days: { expiry ≤ last-expiry },
     ghost most: { blocks ≤ top-blocks },
 }

@@ -11,7 +11,7 @@ use Rattle.pledge.specs.Numbers.{Numbers}
 use Rattle.shelf.specs.Places.{below}
 use Rattle.bits.proofs.Words.{ones-none}
 use Rattle.table.specs.Tables.{blank-table}
-use Rattle.table.specs.Accounts.{places, balance-of}
+use Rattle.table.specs.Accounts.{account-places, balance-of}
 use Rattle.table.specs.Offers.{unpaid}
 use Rattle.laws.specs.Worlds.{World, New}
 use Rattle.laws.specs.Calls.{Call, Calls, start, then}
@@ -31,7 +31,7 @@ added-below (suc n) f g = omega (arith, added-below n f g)
 
 added : (f g : ℕ → ℕ) → all-places (λ k. f k + g k) ≡ all-places f + all-places g
 unfolding all-places
-added f g = added-below places f g
+added f g = added-below account-places f g
 
 module _ {P Q : Type 0} (n : Numbers P) (m : Numbers Q) where
   pub laws : (w u : World P Q) → New w → (run : Calls n m w u) → Laws n m run

@@ -23,7 +23,7 @@ use Rattle.lending.specs.Sound.{securities}
 use Rattle.table.specs.declared.table.Table.{Table}
 use Rattle.table.specs.Tables.{account-at, offer-at, taken, with-account, with-offer}
 use Rattle.table.specs.Act.{Acted}
-use Rattle.table.specs.Accounts.{places, balance-of, with-owed, with-applied, with-balance, enrolled, enrol-causes, deposit-causes}
+use Rattle.table.specs.Accounts.{account-places, balance-of, with-owed, with-applied, with-balance, enrolled, enrol-causes, deposit-causes}
 use Rattle.table.specs.Offers.{unpaid, offered, offer-places, offer-causes, withdraw-causes}
 use Rattle.book.specs.declared.book.Book.{Book}
 use Rattle.laws.specs.Worlds.{World}
@@ -40,7 +40,7 @@ pub record Moves (s t : Table) (dep yie chg cos ref : ℕ → ℕ) (pay iss met 
 
 pub none-charged : (f : ℕ → ℕ) → ((k : ℕ) → f k ≡ 0) → all-places f ≡ 0
 unfolding all-places
-none-charged f h = below-none places f (λ k _. h k)
+none-charged f h = below-none account-places f (λ k _. h k)
 
 -- nothing is moved
 still : (s t : Table) → ((k : ℕ) → balance-at t k ≡ balance-at s k) → earned t ≡ earned s → t .notices ≡ s .notices →
@@ -118,7 +118,7 @@ module _ {P Q : Type 0} (n : Numbers P) (m : Numbers Q) where
   moved w u (deposits b account cents (Ok z) d) =
       let s : Table = w .book .table in
       let ok = clear (deposit-causes account cents s) (d .0) in
-      let within : account < length (s .accounts) = omega (arith, w .book .sized .0, leb-false places account (ok .0)) in
+      let within : account < length (s .accounts) = omega (arith, w .book .sized .0, leb-false account-places account (ok .0)) in
       record {
         sum = λ k.
             let up = ap (λ t. balance-at t k) (d .2) ∙ raised (s .accounts) account cents _ within (set-balance _ (account-at s account) (ok .1 .1 .1 .0)) k in

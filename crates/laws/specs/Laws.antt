@@ -4,7 +4,7 @@ use Prim.Native.Nat.{ℕ, _+_, _<_}
 use lib.Count.{ones}
 use lib.IntN.{ℤ, pos, _+ℤ_}
 use Rattle.pledge.specs.Numbers.{Numbers}
-use Rattle.table.specs.Accounts.{places}
+use Rattle.table.specs.Accounts.{account-places}
 use Rattle.laws.specs.Worlds.{World, New}
 use Rattle.laws.specs.Calls.{Calls}
 use Rattle.laws.specs.Sums.{deposited, yielded, charged, cost, refunded, paid-by, issued-by, met-by, bought-by, sum-over, earned, balance-at, all-places}
@@ -12,7 +12,7 @@ use Rattle.laws.specs.Sums.{deposited, yielded, charged, cost, refunded, paid-
 module _ {P Q : Type 0} (n : Numbers P) (m : Numbers Q) where
   pub record Laws {w u : World P Q} (run : Calls n m w u) : Type 0 where
     -- at each account place: deposits and yields are fees, costs, refunds and what is there
-    pub sum : (k : ℕ) → k < places →
+    pub sum : (k : ℕ) → k < account-places →
         (pos (sum-over n m (deposited n m k) run + sum-over n m (yielded n m k) run)
         ≡ (pos (sum-over n m (charged n m k) run + sum-over n m (cost n m k) run + sum-over n m (refunded n m k) run) +ℤ balance-at (u .book .table) k))
     -- all fees were paid to lenders and brokers, or are still owed to them

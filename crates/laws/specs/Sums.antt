@@ -10,7 +10,7 @@ use Rattle.pledge.specs.Numbers.{Numbers}
 use Rattle.shelf.specs.Places.{below}
 use Rattle.table.specs.declared.table.Table.{Table}
 use Rattle.table.specs.Tables.{account-at}
-use Rattle.table.specs.Accounts.{places, balance-of}
+use Rattle.table.specs.Accounts.{account-places, balance-of}
 use Rattle.table.specs.Offers.{unpaid}
 use Rattle.laws.specs.Worlds.{World}
 use Rattle.laws.specs.Calls.{Call, opens, enrols, offers, withdraws, applies, returns, deposits, Calls, start, then}
@@ -34,7 +34,7 @@ balance-at t place = balance-of (account-at t place)
 
 -- the sum over all account places
 unfoldable pub all-places : (ℕ → ℕ) → ℕ
-all-places f = below places f
+all-places f = below account-places f
 
 module _ {P Q : Type 0} (n : Numbers P) (m : Numbers Q) where
   -- the cents that a call puts on the account at a place

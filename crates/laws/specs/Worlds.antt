@@ -5,7 +5,7 @@ use lib.ListN.{replicate}
 use Rattle.std.specs.declared.option.Option.{Option}
 use Rattle.std.specs.declared.option.Option.the-variants.{None}
 use Rattle.shelf.specs.declared.held.Held.{Held}
-use Rattle.shelf.specs.Limits.{most-places}
+use Rattle.shelf.specs.Limits.{shelf-places}
 use Rattle.table.specs.Tables.{blank-table}
 use Rattle.book.specs.declared.book.Book.{Book}
 
@@ -21,5 +21,5 @@ with-book w b = record { book = b; first = w .first; second = w .second }
 -- a blank book and empty shelves
 pub record New {P Q : Type 0} (w : World P Q) : Type 0 where
   pub blank : w .book .table ≡ blank-table
-  pub first-empty : w .first ≡ replicate most-places None
-  pub second-empty : w .second ≡ replicate most-places None
+  pub first-empty : w .first ≡ replicate shelf-places None
+  pub second-empty : w .second ≡ replicate shelf-places None

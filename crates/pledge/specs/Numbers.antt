@@ -3,7 +3,7 @@
 -- Days count up from 0; amounts and prices are in cents. The block price is what one block of bonds sells for.
 use mathlib.Core.Path.{_≡_}
 use Prim.Native.Nat.{ℕ, _+_, _≤_, _<_, min}
-use Rattle.pledge.specs.Limits.{top-cents, last-day, Priced}
+use Rattle.pledge.specs.Limits.{top-cents, last-expiry, Priced}
 
 -- What a kind says of its pledges. To draw on a pledge is to ask it for cents on a day at a block price.
 pub record Numbers (P : Type 0) : Type 0 where
@@ -41,7 +41,7 @@ pub record Drawn {P : Type 0} (n : Numbers P) (before : P) (ask day price y : �
 
 -- The rules of a pledge.
 pub record Rules {P : Type 0} (n : Numbers P) : Type 0 where
-  pub expiry-most : (p : P) → n .expiry p ≤ last-day
+  pub expiry-most : (p : P) → n .expiry p ≤ last-expiry
   pub cover-most : (p : P) (day : ℕ) → n .cover p day ≤ top-cents
   pub payable-most : (p : P) (day price : ℕ) → Priced price → n .payable p day price ≤ top-cents
   pub step-least : (p : P) (price : ℕ) → Priced price → 1 ≤ n .step p price

@@ -5,7 +5,7 @@ ghost use Rattle.pledge.specs.Numbers.{Numbers, Rules};
 mod price;
 
 pub use price::BlockPrice;
-pub use price::TOP_PRICE;
+pub use price::TOP_BLOCK_PRICE;
 
 /// A pledge: security that counts for so much until its expiry day, and that can be drawn on up to and on that day.
 ///

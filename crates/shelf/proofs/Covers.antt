@@ -11,7 +11,7 @@ use Rattle.std.proofs.shelf.Lists.{getD-read}
 use Rattle.std.proofs.shelf.Tests.{cond-both}
 use Rattle.pledge.specs.Limits.{top-cents}
 use Rattle.pledge.specs.Numbers.{Numbers, Rules}
-use Rattle.shelf.specs.Limits.{most-places, top-cover}
+use Rattle.shelf.specs.Limits.{shelf-places, top-cover}
 use Rattle.shelf.specs.Places.{at, below, counted, over, cover-of}
 use Rattle.shelf.specs.declared.held.Held.{Held}
 use Rattle.shelf.proofs.Sums.{below-more, below-none, below-most}
@@ -44,7 +44,7 @@ module _ {P : Type 0} (account : ℕ) (f : P → ℕ) (shelf : List (Option (Hel
 
 -- a shelf covers at most `top-cover` for an account
 pub cover-most : {P : Type 0} (n : Numbers P) → Rules n → (shelf : List (Option (Held P))) (account day : ℕ) →
-    length shelf ≤ most-places → cover-of n shelf account day ≤ top-cover
+    length shelf ≤ shelf-places → cover-of n shelf account day ≤ top-cover
 cover-most n rules shelf account day within =
     omega (arith, over-most account (λ p. n .cover p day) shelf top-cents (λ p. rules .cover-most p day))
 

@@ -3,7 +3,7 @@ ghost use mathlib.Core.Path.{_≡_};
 ghost use Prim.Native.Nat.{_≤_};
 ghost use lib.ListN.{length};
 ghost use Rattle.pledge.specs.Limits.{top-cents};
-ghost use Rattle.shelf.specs.Limits.{most-places, top-cover};
+ghost use Rattle.shelf.specs.Limits.{shelf-places, top-cover};
 ghost use Rattle.shelf.specs.Places.{counted, cover-of};
 
 mod held;
@@ -16,7 +16,7 @@ pub const SHELF_PLACES: usize = 128;
 
 /// The cents that the account's pledges on the shelf cover on a day.
 pub fn cover_of<P: Pledge>(shelf: &[Option<Held<P>>], account: u8, day: u16) -> u64
-    requires { ⌜ length (now shelf) ≤ most-places ⌝ }
+    requires { ⌜ length (now shelf) ≤ shelf-places ⌝ }
     ensures value { λ r. ⌜ r ≡ cover-of numbers (now (shelf .entry)) account day ⌝ }
     ensures most { λ r. ⌜ r ≤ top-cover ⌝ }
 {

@@ -19,8 +19,8 @@ use Rattle.table.specs.Act.{Act, first, outside}
 use Rattle.table.specs.Tables.{account-at, blank, morning, taken, with-account}
 
 -- account places are numbered 0 to 63
-abbrev pub places : ℕ
-places = 64
+abbrev pub account-places : ℕ
+account-places = 64
 
 -- firms are numbered 1 up to this
 abbrev pub top-firm : ℕ
@@ -62,7 +62,7 @@ enrolled firm security = record { firm = firm; security = security; owed = 0; ap
 
 abbrev pub enrol-causes : ℕ → ℕ → ℕ → Table → List (Bool × Refusal)
 enrol-causes account firm security t =
-    (leb places account || leb securities security, NoSuchPlace)
+    (leb account-places account || leb securities security, NoSuchPlace)
     ∷ (outside 1 top-firm firm, OutOfRange)
     ∷ (not (morning (t .hour)), WrongHour)
     ∷ (taken (account-at t account), PlaceTaken)
@@ -78,7 +78,7 @@ enrol-act account firm security = record {
 
 abbrev pub apply-causes : ℕ → ℕ → Table → List (Bool × Refusal)
 apply-causes account units t =
-    (leb places account, NoSuchPlace)
+    (leb account-places account, NoSuchPlace)
     ∷ (outside 1 top-units units, OutOfRange)
     ∷ (not (morning (t .hour)), WrongHour)
     ∷ (not (taken (account-at t account)), PlaceEmpty)
@@ -96,7 +96,7 @@ apply-act account units = record {
 
 abbrev pub return-causes : ℕ → ℕ → Table → List (Bool × Refusal)
 return-causes account units t =
-    (leb places account, NoSuchPlace)
+    (leb account-places account, NoSuchPlace)
     ∷ (outside 1 top-units units, OutOfRange)
     ∷ (not (morning (t .hour)), WrongHour)
     ∷ (not (taken (account-at t account)), PlaceEmpty)
@@ -113,7 +113,7 @@ return-act account units = record {
 
 abbrev pub deposit-causes : ℕ → ℕ → Table → List (Bool × Refusal)
 deposit-causes account cents t =
-    (leb places account, NoSuchPlace)
+    (leb account-places account, NoSuchPlace)
     ∷ (outside 1 top-deposit cents, OutOfRange)
     ∷ (blank (t .hour), WrongHour)
     ∷ (not (taken (account-at t account)), PlaceEmpty)

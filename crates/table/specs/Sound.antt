@@ -23,8 +23,8 @@ Dated t = t .day ≤ last-day
 abbrev pub Sized : Table → Type 0
 Sized t = (length (t .accounts) ≡ 64) × (length (t .offers) ≡ 256)
 
-abbrev pub Priced : Table → Type 0
-Priced t = (security : ℕ) → price-at t security ≤ top-price
+abbrev pub Prices-bounded : Table → Type 0
+Prices-bounded t = (security : ℕ) → price-at t security ≤ top-price
 
 abbrev pub Loans : Table → Type 0
 Loans t = (place : ℕ) (a : Account) → account-at t place ≡ Some a → Sound-loan a
@@ -39,8 +39,8 @@ abbrev pub Earnings : Table → Type 0
 Earnings t = (place : ℕ) (o : Offer) → offer-at t place ≡ Some o → Sound-earnings (elevens t) o
 
 -- a slip is out only where a notice is open
-abbrev pub Held : Table → Type 0
-Held t = (n : ℕ) → bit (t .slips) n ≡ true → bit (t .notices) n ≡ true
+abbrev pub Slips-held : Table → Type 0
+Slips-held t = (n : ℕ) → bit (t .slips) n ≡ true → bit (t .notices) n ≡ true
 
 -- a notice is open only where there is an account
 abbrev pub Noticed : Table → Type 0
@@ -53,12 +53,12 @@ Idle t = calling (t .hour) ≡ false → t .notices ≡ 0
 pub record Sound (t : Table) : Type 0 where
   pub dated : Dated t
   pub sized : Sized t
-  pub priced : Priced t
+  pub priced : Prices-bounded t
   pub loans : Loans t
   pub balances : Balances t
   pub terms : Terms t
   pub earnings : Earnings t
-  pub held : Held t
+  pub held : Slips-held t
   pub noticed : Noticed t
   pub idle : Idle t
 

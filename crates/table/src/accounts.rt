@@ -10,7 +10,7 @@ ghost use Rattle.table.specs.Act.{Acted};
 ghost use Rattle.table.specs.Accounts.{top-deposit, with-balance, with-applied, with-owed, enrol-act, apply-act, return-act, deposit-act};
 ghost use Rattle.table.specs.Sound.{Sound, last-day};
 use super::hour::Hour;
-use super::limits::PLACES;
+use super::limits::ACCOUNT_PLACES;
 use super::limits::SECURITIES;
 use super::limits::TOP_BALANCE;
 use super::limits::TOP_DEPOSIT;
@@ -28,7 +28,7 @@ impl Table {
         ensures acted { λ r. ⌜ Acted (enrol-act account firm security) (now (self .entry)) (now (self .exit)) r ⌝ }
         ensures sound { λ _. ⌜ Sound (now (self .exit)) ⌝ }
     {
-        if account >= PLACES || security >= SECURITIES {
+        if account >= ACCOUNT_PLACES || security >= SECURITIES {
             return Err(Refusal::NoSuchPlace);
         }
         if firm < 1 || firm > TOP_FIRM {
@@ -57,7 +57,7 @@ impl Table {
         ensures acted { λ r. ⌜ Acted (apply-act account units) (now (self .entry)) (now (self .exit)) r ⌝ }
         ensures sound { λ _. ⌜ Sound (now (self .exit)) ⌝ }
     {
-        if account >= PLACES {
+        if account >= ACCOUNT_PLACES {
             return Err(Refusal::NoSuchPlace);
         }
         if units < 1 || units > TOP_UNITS {
@@ -86,7 +86,7 @@ impl Table {
         ensures acted { λ r. ⌜ Acted (return-act account units) (now (self .entry)) (now (self .exit)) r ⌝ }
         ensures sound { λ _. ⌜ Sound (now (self .exit)) ⌝ }
     {
-        if account >= PLACES {
+        if account >= ACCOUNT_PLACES {
             return Err(Refusal::NoSuchPlace);
         }
         if units < 1 || units > TOP_UNITS {
@@ -112,7 +112,7 @@ impl Table {
         ensures acted { λ r. ⌜ Acted (deposit-act account cents) (now (self .entry)) (now (self .exit)) r ⌝ }
         ensures sound { λ _. ⌜ Sound (now (self .exit)) ⌝ }
     {
-        if account >= PLACES {
+        if account >= ACCOUNT_PLACES {
             return Err(Refusal::NoSuchPlace);
         }
         if cents < 1 || cents > TOP_DEPOSIT {

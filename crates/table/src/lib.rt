@@ -10,8 +10,8 @@ mod table;
 mod words;
 
 pub use hour::Hour;
+pub use limits::ACCOUNT_PLACES;
 pub use limits::OFFER_PLACES;
-pub use limits::PLACES;
 pub use limits::SECURITIES;
 pub use refusal::Refusal;
 pub use table::Table;

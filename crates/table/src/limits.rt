@@ -1,7 +1,7 @@
 // How many places there are, and how large a number may be.
 
 /// Account places, numbered from 0.
-pub const PLACES: u8 = 64;
+pub const ACCOUNT_PLACES: u8 = 64;
 /// Offer places, numbered from 0.
 pub const OFFER_PLACES: u16 = 256;
 /// Securities, numbered from 0.

@@ -5,7 +5,7 @@ ghost use Rattle.lending.specs.Measures.{top-price};
 ghost use Rattle.lending.specs.Sound.{securities};
 ghost use Rattle.table.specs.Tables.{account-at, offer-at, price-at, elevens, blank-table};
 ghost use Rattle.table.specs.Sound.{Sound, Dated, Sound-slot, Sound-offer-slot};
-ghost use Rattle.table.specs.Accounts.{places};
+ghost use Rattle.table.specs.Accounts.{account-places};
 ghost use Rattle.table.specs.Offers.{offer-places};
 use super::hour::Hour;
 use super::table::Table;
@@ -31,7 +31,7 @@ impl Table {
 
     /// What stands at an account place.
     pub fn account(&self, place: u8) -> Option<Account>
-        requires place { ⌜ place < places ⌝ }
+        requires place { ⌜ place < account-places ⌝ }
         requires sound { ⌜ Sound (now self) ⌝ }
         ensures value { λ r. ⌜ r ≡ account-at (now (self .entry)) place ⌝ }
         ensures sound { λ r. ⌜ Sound-slot (elevens (now (self .entry))) r ⌝ }

@@ -3,7 +3,7 @@ use lending::Account;
 use lending::Offer;
 
 /// All that a book knows, with nothing promised about it.
-#[derive(Clone, Copy)]
+#[derive(Drop)]
 pub struct Table {
     pub day: u16,
     pub hour: Hour,

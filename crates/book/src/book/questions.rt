@@ -11,7 +11,7 @@ ghost use Rattle.std.specs.Results.{Cases};
 ghost use Rattle.table.specs.Act.{first as first-cause};
 ghost use Rattle.table.specs.Sound.{last-day};
 ghost use Rattle.table.specs.Tables.{account-at, elevens};
-ghost use Rattle.shelf.specs.Limits.{top-cover, most-places};
+ghost use Rattle.shelf.specs.Limits.{top-cover, shelf-places};
 ghost use Rattle.book.specs.Statements.{Found, Stated, statement-causes, stated};
 use crate::book::Book;
 use crate::statement::Loan;
@@ -24,7 +24,7 @@ use pledge::Pledge;
 use shelf::Held;
 use shelf::SHELF_PLACES;
 use shelf::cover_of;
-use table::PLACES;
+use table::ACCOUNT_PLACES;
 use table::Refusal;
 
 impl Book {
@@ -53,9 +53,9 @@ impl Book {
     /// The account at a place, or why there is nothing to tell.
     fn account_to_state(&self, first: usize, second: usize, account: u8) -> Result<Account, Refusal>
         ensures found { λ r. ⌜ Found (first-cause (statement-causes (now (self .entry) .table) first second account)) (account-at (now (self .entry) .table) account) r ⌝ }
-        ensures sound { λ r. ⌜ Cases r (λ a. Sound-account (elevens (now (self .entry) .table)) a × (first ≡ most-places) × (second ≡ most-places)) (λ _. Unit {0}) ⌝ }
+        ensures sound { λ r. ⌜ Cases r (λ a. Sound-account (elevens (now (self .entry) .table)) a × (first ≡ shelf-places) × (second ≡ shelf-places)) (λ _. Unit {0}) ⌝ }
     {
-        if first != SHELF_PLACES || second != SHELF_PLACES || account >= PLACES {
+        if first != SHELF_PLACES || second != SHELF_PLACES || account >= ACCOUNT_PLACES {
             return Err(Refusal::NoSuchPlace);
         }
         let Some(a) = self.table.account(account) else {
