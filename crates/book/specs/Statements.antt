@@ -21,7 +21,8 @@ use Rattle.table.specs.declared.refusal.Refusal.the-variants.{NoSuchPlace, Plac
 use Rattle.table.specs.declared.table.Table.{Table}
 use Rattle.table.specs.Act.{Answered, first as first-cause}
 use Rattle.table.specs.Tables.{account-at, price-at, taken}
-use Rattle.table.specs.Accounts.{account-places, owed-of, applied-of, barred-of, balance-of}
+use Rattle.table.specs.Limits.{account-places}
+use Rattle.table.specs.Accounts.{owed-of, applied-of, barred-of, balance-of}
 use Rattle.book.specs.declared.statement.Statement.{Statement}
 
 -- the price of the account's security

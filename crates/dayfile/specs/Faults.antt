@@ -2,6 +2,7 @@
 use mathlib.Core.List.{List}
 use Prim.Native.Nat.{ℕ}
 use lib.Chars.{codes}
+use Rattle.dayfile.specs.Limits.{most-bytes}
 use Rattle.dayfile.specs.declared.fault.Layer.{Layer}
 use Rattle.dayfile.specs.declared.fault.Layer.the-variants as layer
 use Rattle.dayfile.specs.declared.fault.Told.{Told}
@@ -34,7 +35,7 @@ odd-memo place = record { layer = layer.Memo; number = 24; place = place }
 
 -- the file has more than 65,536 bytes
 abbrev pub too-long : Told
-too-long = record { layer = layer.File; number = 25; place = 65536 }
+too-long = record { layer = layer.File; number = 25; place = most-bytes }
 
 abbrev pub tells : Fault → Told
 tells (fault.File file.Version) = no-version

@@ -11,6 +11,7 @@ use Rattle.dayfile.specs.declared.fault.FileCause.{FileCause}
 use Rattle.dayfile.specs.declared.fault.FileCause.the-variants as file
 use Rattle.dayfile.specs.declared.fault.Fault.{Fault}
 use Rattle.dayfile.specs.declared.reader.Reader.{Reader}
+use Rattle.dayfile.specs.Limits.{version, most-bytes}
 use Rattle.dayfile.specs.Faults.{tells, no-version, too-long}
 use Rattle.dayfile.specs.Outcome.{Outcome, ends, faults, reads, Reading, read-record}
 
@@ -27,19 +28,19 @@ pub data Holds (bs : List ℕ) : ℕ → List Reading → Ending → Type 0 wher
 
 -- the file bs has these records and ends so: a file has at most 65,536 bytes, and the first is the version, 1
 pub data Means (bs : List ℕ) : List Reading → Ending → Type 0 where
-  is-too-long : 65536 < length bs → Means bs [] (stopped too-long)
-  has-no-version : length bs ≤ 65536 → (byte bs 0 ≡ 1 → ⊥) → Means bs [] (stopped no-version)
-  has-version : (rs : List Reading) (e : Ending) → length bs ≤ 65536 → byte bs 0 ≡ 1 → Holds bs 1 rs e → Means bs rs e
+  is-too-long : most-bytes < length bs → Means bs [] (stopped too-long)
+  has-no-version : length bs ≤ most-bytes → (byte bs 0 ≡ version → ⊥) → Means bs [] (stopped no-version)
+  has-version : (rs : List Reading) (e : Ending) → length bs ≤ most-bytes → byte bs 0 ≡ version → Holds bs 1 rs e → Means bs rs e
 
 -- how a file begins
 abbrev pub Begins : Result (Unit {0}) FileCause → List ℕ → Type 0
-Begins (Ok u) bs = (length bs ≤ 65536) × (byte bs 0 ≡ 1)
-Begins (Err file.Version) bs = (length bs ≤ 65536) × (byte bs 0 ≡ 1 → ⊥)
-Begins (Err file.TooLong) bs = 65536 < length bs
+Begins (Ok u) bs = (length bs ≤ most-bytes) × (byte bs 0 ≡ version)
+Begins (Err file.Version) bs = (length bs ≤ most-bytes) × (byte bs 0 ≡ version → ⊥)
+Begins (Err file.TooLong) bs = most-bytes < length bs
 
 -- what opening a file answers
 abbrev pub Opened : Result Reader Fault → List ℕ → Type 0
-Opened (Ok reader) bs = (length bs ≤ 65536) × (byte bs 0 ≡ 1) × (reader .file .now ≡ bs) × (reader .at ≡ 1)
+Opened (Ok reader) bs = (length bs ≤ most-bytes) × (byte bs 0 ≡ version) × (reader .file .now ≡ bs) × (reader .at ≡ 1)
 Opened (Err f) bs = Means bs [] (stopped (tells f))
 
 -- a sink takes these records, one after the other

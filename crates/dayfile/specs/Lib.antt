@@ -1,3 +1,4 @@
+pub mod Limits
 pub mod Layers
 pub mod Faults
 pub mod Outcome

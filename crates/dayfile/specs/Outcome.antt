@@ -8,6 +8,7 @@ use Rattle.cursor.specs.Bytes.{byte, be16, part}
 use Rattle.instruction.specs.Said.{Said}
 use Rattle.instruction.specs.Kinds.{known, width, said}
 use Rattle.dayfile.specs.declared.fault.Told.{Told}
+use Rattle.dayfile.specs.Limits.{most-memo, lowest-mark, highest-mark}
 use Rattle.dayfile.specs.Faults.{bad-length, no-kind, ends-inside, odd-memo}
 
 -- what a record says, its memo, and the place where the memo begins
@@ -26,7 +27,7 @@ pub data Outcome : Type 0 where
 
 -- a byte that a memo may have
 abbrev pub plain : ℕ → Bool
-plain b = cond (leb 33 b) (leb b 126) false
+plain b = cond (leb lowest-mark b) (leb b highest-mark) false
 
 abbrev pub all-plain : List ℕ → Bool
 all-plain [] = true
@@ -39,7 +40,7 @@ read-body b p =
     cond (leb 1 (length b))
     (cond (known (byte b 0))
     (cond (leb fields-end (length b))
-    (cond (leb (length b - fields-end) 64)
+    (cond (leb (length b - fields-end) most-memo)
     (cond (all-plain (drop fields-end b))
     (reads (record { says = said (byte b 0) b 1; memo = drop fields-end b; memo-place = p + 2 + fields-end }) (p + 2 + length b))
     (faults (odd-memo p)))

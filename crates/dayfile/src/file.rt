@@ -10,7 +10,7 @@ use super::reader::Reader;
 use super::record::Record;
 
 /// The most bytes that a file has.
-const MOST: usize = 65_536;
+pub(crate) const MOST: usize = 65_536;
 /// The first byte of a file.
 const VERSION: u8 = 1;
 

@@ -6,6 +6,7 @@ use super::fault::FileCause;
 use super::fault::Layer;
 use super::fault::RecordCause;
 use super::fault::Told;
+use super::file::MOST;
 
 impl Fault {
     /// Layer, number and place.
@@ -25,7 +26,7 @@ impl Fault {
             } => Told {
                 layer: Layer::File,
                 number: 25,
-                place: 65_536,
+                place: MOST,
             },
             Fault::Record {
                 cause: RecordCause::Length,

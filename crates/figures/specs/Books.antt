@@ -10,7 +10,8 @@ use Rattle.table.specs.declared.refusal.Refusal.the-variants.{RateTooHigh}
 use Rattle.table.specs.declared.table.Table.{Table}
 use Rattle.table.specs.Refusals.{naming}
 use Rattle.table.specs.Tables.{offer-at, price-at, morning}
-use Rattle.table.specs.Offers.{offer-places, offer-act}
+use Rattle.table.specs.Limits.{offer-places}
+use Rattle.table.specs.Offers.{offer-act}
 use Rattle.book.specs.Statements.{stated}
 use Rattle.figures.specs.declared.books.BookFigures.{BookFigures}
 

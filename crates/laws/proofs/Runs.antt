@@ -11,7 +11,8 @@ use Rattle.pledge.specs.Numbers.{Numbers}
 use Rattle.shelf.specs.Places.{below}
 use Rattle.bits.proofs.Words.{ones-none}
 use Rattle.table.specs.Tables.{blank-table}
-use Rattle.table.specs.Accounts.{account-places, balance-of}
+use Rattle.table.specs.Limits.{account-places}
+use Rattle.table.specs.Accounts.{balance-of}
 use Rattle.table.specs.Offers.{unpaid}
 use Rattle.laws.specs.Worlds.{World, New}
 use Rattle.laws.specs.Calls.{Call, Calls, start, then}

@@ -23,8 +23,9 @@ use Rattle.lending.specs.Sound.{securities}
 use Rattle.table.specs.declared.table.Table.{Table}
 use Rattle.table.specs.Tables.{account-at, offer-at, taken, with-account, with-offer}
 use Rattle.table.specs.Act.{Acted}
-use Rattle.table.specs.Accounts.{account-places, balance-of, with-owed, with-applied, with-balance, enrolled, enrol-causes, deposit-causes}
-use Rattle.table.specs.Offers.{unpaid, offered, offer-places, offer-causes, withdraw-causes}
+use Rattle.table.specs.Limits.{account-places, offer-places}
+use Rattle.table.specs.Accounts.{balance-of, with-owed, with-applied, with-balance, enrolled, enrol-causes, deposit-causes}
+use Rattle.table.specs.Offers.{unpaid, offered, offer-causes, withdraw-causes}
 use Rattle.book.specs.declared.book.Book.{Book}
 use Rattle.laws.specs.Worlds.{World}
 use Rattle.laws.specs.Calls.{Call, opens, enrols, offers, withdraws, applies, returns, deposits}

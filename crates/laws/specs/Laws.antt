@@ -4,7 +4,7 @@ use Prim.Native.Nat.{ℕ, _+_, _<_}
 use lib.Count.{ones}
 use lib.IntN.{ℤ, pos, _+ℤ_}
 use Rattle.pledge.specs.Numbers.{Numbers}
-use Rattle.table.specs.Accounts.{account-places}
+use Rattle.table.specs.Limits.{account-places}
 use Rattle.laws.specs.Worlds.{World, New}
 use Rattle.laws.specs.Calls.{Calls}
 use Rattle.laws.specs.Sums.{deposited, yielded, charged, cost, refunded, paid-by, issued-by, met-by, bought-by, sum-over, earned, balance-at, all-places}

@@ -10,7 +10,8 @@ use Rattle.pledge.specs.Numbers.{Numbers}
 use Rattle.shelf.specs.Places.{below}
 use Rattle.table.specs.declared.table.Table.{Table}
 use Rattle.table.specs.Tables.{account-at}
-use Rattle.table.specs.Accounts.{account-places, balance-of}
+use Rattle.table.specs.Limits.{account-places}
+use Rattle.table.specs.Accounts.{balance-of}
 use Rattle.table.specs.Offers.{unpaid}
 use Rattle.laws.specs.Worlds.{World}
 use Rattle.laws.specs.Calls.{Call, opens, enrols, offers, withdraws, applies, returns, deposits, Calls, start, then}

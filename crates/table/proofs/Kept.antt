@@ -22,7 +22,8 @@ use Rattle.table.specs.declared.hour.Hour.{Hour}
 use Rattle.table.specs.declared.hour.Hour.the-variants as hour
 use Rattle.table.specs.declared.table.Table.{Table}
 use Rattle.table.specs.Tables.{account-at, offer-at, elevens, calling, afternoon, taken, with-account, with-offer, blank-table}
-use Rattle.table.specs.Sound.{Sound, Sound-offer-slot, last-day}
+use Rattle.table.specs.Limits.{last-day}
+use Rattle.table.specs.Sound.{Sound, Sound-offer-slot}
 use Rattle.table.specs.Days.{all-priced, open-act}
 use Rattle.table.specs.Accounts.{enrolled, with-owed, with-applied, with-balance}
 use Rattle.table.specs.Offers.{offered}

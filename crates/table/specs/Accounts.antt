@@ -15,20 +15,9 @@ use Rattle.lending.specs.Sound.{securities, top-balance}
 use Rattle.table.specs.declared.refusal.Refusal.{Refusal}
 use Rattle.table.specs.declared.refusal.Refusal.the-variants.{NoSuchPlace, OutOfRange, WrongHour, PlaceTaken, PlaceEmpty, Barred, UnitsOutOfReach, UnderSlip, BalanceTooHigh}
 use Rattle.table.specs.declared.table.Table.{Table}
+use Rattle.table.specs.Limits.{account-places, top-firm, top-deposit}
 use Rattle.table.specs.Act.{Act, first, outside}
 use Rattle.table.specs.Tables.{account-at, blank, morning, taken, with-account}
-
--- account places are numbered 0 to 63
-abbrev pub account-places : ℕ
-account-places = 64
-
--- firms are numbered 1 up to this
-abbrev pub top-firm : ℕ
-top-firm = 9999
-
--- the most cents of one deposit
-abbrev pub top-deposit : ℕ
-top-deposit = 10000000000000
 
 -- what an account has, and 0 at an empty place
 abbrev pub owed-of : Option Account → ℕ

@@ -10,7 +10,7 @@ use Rattle.table.specs.declared.refusal.Refusal.the-variants.{OutOfRange, Wron
 use Rattle.table.specs.declared.table.Table.{Table}
 use Rattle.table.specs.Act.{Act, first, outside}
 use Rattle.table.specs.Tables.{blank, afternoon}
-use Rattle.table.specs.Sound.{last-day}
+use Rattle.table.specs.Limits.{last-day}
 
 -- every price is 1 up to the highest
 abbrev pub all-priced : List ℕ → Bool

@@ -11,12 +11,9 @@ use Rattle.lending.specs.Sound.{securities, top-rate, top-commission}
 use Rattle.table.specs.declared.refusal.Refusal.{Refusal}
 use Rattle.table.specs.declared.refusal.Refusal.the-variants.{NoSuchPlace, OutOfRange, WrongHour, PlaceTaken, PlaceEmpty, RateTooHigh}
 use Rattle.table.specs.declared.table.Table.{Table}
+use Rattle.table.specs.Limits.{offer-places}
 use Rattle.table.specs.Act.{Act, first, outside}
 use Rattle.table.specs.Tables.{offer-at, price-at, morning, taken, with-offer}
-
--- offer places are numbered 0 to 255
-abbrev pub offer-places : ℕ
-offer-places = 256
 
 -- a rate above 7 per cent of the price is too high
 abbrev pub too-dear : ℕ → ℕ → Bool

@@ -11,17 +11,14 @@ use Rattle.lending.specs.declared.offer.Offer.{Offer}
 use Rattle.lending.specs.Measures.{top-price}
 use Rattle.lending.specs.Sound.{Sound-loan, Sound-balance, Sound-account, Sound-terms, Sound-earnings, Sound-offer}
 use Rattle.table.specs.declared.table.Table.{Table}
+use Rattle.table.specs.Limits.{account-places, offer-places, last-day}
 use Rattle.table.specs.Tables.{account-at, offer-at, price-at, calling, elevens, taken}
-
--- the last day
-abbrev pub last-day : ℕ
-last-day = 60000
 
 abbrev pub Dated : Table → Type 0
 Dated t = t .day ≤ last-day
 
 abbrev pub Sized : Table → Type 0
-Sized t = (length (t .accounts) ≡ 64) × (length (t .offers) ≡ 256)
+Sized t = (length (t .accounts) ≡ account-places) × (length (t .offers) ≡ offer-places)
 
 abbrev pub Prices-bounded : Table → Type 0
 Prices-bounded t = (security : ℕ) → price-at t security ≤ top-price

@@ -7,6 +7,8 @@ use Rattle.std.specs.declared.option.Option.{Option}
 use Rattle.std.specs.declared.option.Option.the-variants.{Some, None}
 use Rattle.lending.specs.declared.account.Account.{Account}
 use Rattle.lending.specs.declared.offer.Offer.{Offer}
+use Rattle.lending.specs.Sound.{securities}
+use Rattle.table.specs.Limits.{account-places, offer-places}
 use Rattle.table.specs.declared.hour.Hour.{Hour}
 use Rattle.table.specs.declared.hour.Hour.the-variants.{Blank, Morning, Calling, Afternoon}
 use Rattle.table.specs.declared.table.Table.{Table}
@@ -61,4 +63,4 @@ taken (Some x) = true
 
 -- a new book's table: the blank hour of day 0, with every place empty
 abbrev pub blank-table : Table
-blank-table = record { day = 0; hour = Blank; prices = replicate 8 0; accounts = replicate 64 None; offers = replicate 256 None; notices = 0; slips = 0 }
+blank-table = record { day = 0; hour = Blank; prices = replicate securities 0; accounts = replicate account-places None; offers = replicate offer-places None; notices = 0; slips = 0 }

@@ -9,7 +9,7 @@ ghost use Rattle.lending.specs.Sound.{Sound-account, top-balance, lowest};
 ghost use Rattle.std.specs.declared.option.Option.the-variants.{Some};
 ghost use Rattle.std.specs.Results.{Cases};
 ghost use Rattle.table.specs.Act.{first as first-cause};
-ghost use Rattle.table.specs.Sound.{last-day};
+ghost use Rattle.table.specs.Limits.{last-day};
 ghost use Rattle.table.specs.Tables.{account-at, elevens};
 ghost use Rattle.shelf.specs.Limits.{top-cover, shelf-places};
 ghost use Rattle.book.specs.Statements.{Found, Stated, statement-causes, stated};
