@@ -1,6 +1,8 @@
 //! One bit of a 64-bit word, and how many are set.
 //!
 //! A place in the word is counted from 0, the bit that weighs 1, to 63.
+#![tactic(auto)]
+
 ghost use Rattle.std.specs.Prelude.{◌≡◌, ◌<◌, count_ones};
 ghost use Rattle.bits.specs.Bit.{bit, with_bit, without_bit};
 

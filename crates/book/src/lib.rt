@@ -1,4 +1,6 @@
 //! The book: its calls and questions, for every input, with nothing asked of the caller.
+#![tactic(auto)]
+
 mod book;
 mod examined;
 mod handed_back;

@@ -1,5 +1,7 @@
 //! Trials of the book: a second calculation, written another way from the same rules, and calls made by hand and by chance
 //! that both have to answer alike.
+#![tactic(auto)]
+
 #[cfg(test)]
 mod call;
 #[cfg(test)]

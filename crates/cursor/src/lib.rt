@@ -1,4 +1,6 @@
 //! A cursor over lent bytes that takes one field after another.
+#![tactic(auto)]
+
 mod cursor;
 mod take;
 

@@ -1,4 +1,6 @@
 //! The day file: bytes to records, one by one or all of them, or the place and cause of the first fault.
+#![tactic(auto)]
+
 mod fault;
 mod file;
 mod reader;

@@ -1,4 +1,5 @@
 //! Numbers for trials. Everything here is for tests.
+#![tactic(auto)]
 
 /// Numbers as if by chance: the same in every run.
 #[derive(Drop)]

@@ -1,4 +1,6 @@
 //! Worked figures: small cases, asked of the code and shown of its definitions.
+#![tactic(auto)]
+
 mod books;
 mod pledges;
 

@@ -1,5 +1,7 @@
 //! Trials of the day-file reader: a second reader, written another way from the same rules, and files made by hand and by
 //! chance that both have to read alike.
+#![tactic(auto)]
+
 #[cfg(test)]
 mod agree;
 #[cfg(test)]

@@ -1,4 +1,6 @@
 //! What a record of a day file tells to do, and how it is read from the fields of its kind.
+#![tactic(auto)]
+
 mod fields;
 mod instruction;
 mod name;

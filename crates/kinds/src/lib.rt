@@ -1,4 +1,6 @@
 //! The two kinds of pledge: guarantees and bonds.
+#![tactic(auto)]
+
 mod bond;
 mod bond_pledge;
 mod guarantee;

@@ -1,4 +1,6 @@
 //! What holds of every run of calls on a book.
+#![tactic(auto)]
+
 ghost use Rattle.laws.specs.Laws.{BookLaws};
 
 use pledge::Pledge;

@@ -1,4 +1,6 @@
 //! Accounts and offers, the measures of a loan, and the lending at eleven o'clock.
+#![tactic(auto)]
+
 mod account;
 mod charge;
 mod clock;

@@ -1,5 +1,7 @@
 //! Margins: the measures of an account in a table, and the plain halves of the calls that lean on them. What lies on the
 //! shelves comes in as numbers.
+#![tactic(auto)]
+
 mod backed;
 mod buy_ins;
 mod execution;

@@ -1,4 +1,6 @@
 //! What a pledge is to those who hold it: what it counts for, and drawing on it.
+#![tactic(auto)]
+
 ghost use Rattle.std.specs.Prelude.{◌≡◌};
 ghost use Rattle.pledge.specs.Numbers.{Numbers, Rules};
 

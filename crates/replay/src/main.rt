@@ -1,4 +1,6 @@
 //! Reads a day file from standard input and prints what each record says, or where and why the file is faulty.
+#![tactic(auto)]
+
 mod fields;
 mod printer;
 

@@ -1,4 +1,6 @@
 //! A shelf: a row of places for pledges of one kind, and what those of one account come to.
+#![tactic(auto)]
+
 mod covers;
 mod held;
 mod lodging;

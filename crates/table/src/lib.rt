@@ -1,4 +1,6 @@
 //! The book's plain state, what each call does to it, and what always holds of it.
+#![tactic(auto)]
+
 mod accounts;
 mod days;
 mod elevens;
