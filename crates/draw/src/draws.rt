@@ -19,11 +19,11 @@ pub fn draw_on<P: Pledge>(
     price: BlockPrice,
 ) -> u64
     requires { length shelf.old ≤ shelf_places }
-    ensures yields { result ≡ yielded numbers shelf.old account ask day price.cents }
-    ensures left { shelf.new ≡ drawn numbers shelf.old account ask day price.cents }
+    ensures yields { result ≡ yielded P.numbers shelf.old account ask day price.cents }
+    ensures left { shelf.new ≡ drawn P.numbers shelf.old account ask day price.cents }
     ensures most { result ≤ top_cover }
     ensures none { ask ≡ 0 → result ≡ 0 }
-    ensures told { DrawTold numbers shelf.old account ask day price.cents }
+    ensures told { DrawTold P.numbers shelf.old account ask day price.cents }
 {
     let mut lack = ask;
     let mut total = 0;
@@ -55,16 +55,16 @@ fn draw_at<P: Pledge>(
     price: BlockPrice,
 ) -> u64
     requires { k < length shelf.old }
-    ensures yields { result ≡ yields_at numbers (at shelf.old k) ask day price.cents }
-    ensures left { shelf.new ≡ slice_set shelf.old k (left_at numbers (at shelf.old k) ask day price.cents) }
+    ensures yields { result ≡ yields_at P.numbers (at shelf.old k) ask day price.cents }
+    ensures left { shelf.new ≡ slice_set shelf.old k (left_at P.numbers (at shelf.old k) ask day price.cents) }
 {
     draw_in(&mut shelf[k], ask, day, price)
 }
 
 /// Draws on what a place holds for `ask` cents.
 fn draw_in<P: Pledge>(place: &mut Option<Held<P>>, ask: u64, day: u16, price: BlockPrice) -> u64
-    ensures yields { result ≡ yields_at numbers place.old ask day price.cents }
-    ensures left { place.new ≡ left_at numbers place.old ask day price.cents }
+    ensures yields { result ≡ yields_at P.numbers place.old ask day price.cents }
+    ensures left { place.new ≡ left_at P.numbers place.old ask day price.cents }
 {
     match place {
         Some(held) => held.pledge.draw(ask, day, price),

@@ -9,7 +9,7 @@ use shelf::Held;
 
 /// The first of the account's turns that do not come before `from`, if there is one.
 pub fn next_from<P: Pledge>(shelf: &[Option<Held<P>>], account: u8, from: Turn) -> Option<Turn>
-    ensures { NextIs numbers shelf.now account from (length shelf.now) result }
+    ensures { NextIs P.numbers shelf.now account from (length shelf.now) result }
 {
     let mut best = None;
     for (k, place) in shelf.iter().enumerate() {
@@ -25,7 +25,7 @@ fn candidate_at<P: Pledge>(
     from: Turn,
     k: usize,
 ) -> Option<Turn>
-    ensures { result ≡ candidate numbers account from k place.now }
+    ensures { result ≡ candidate P.numbers account from k place.now }
 {
     match place {
         Some(held) => {

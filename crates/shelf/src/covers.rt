@@ -10,7 +10,7 @@ use pledge::Pledge;
 /// The cents that the account's pledges on the shelf cover on a day.
 pub fn cover_of<P: Pledge>(shelf: &[Option<Held<P>>], account: u8, day: u16) -> u64
     requires { length shelf.now ≤ shelf_places }
-    ensures value { result ≡ cover_of numbers shelf.now account day }
+    ensures value { result ≡ cover_of P.numbers shelf.now account day }
     ensures most { result ≤ top_cover }
 {
     let mut sum = 0;
@@ -22,7 +22,7 @@ pub fn cover_of<P: Pledge>(shelf: &[Option<Held<P>>], account: u8, day: u16) -> 
 
 /// What one place adds to the account's cover: its pledge's cover if that backs the account, and else nothing.
 fn cover_at<P: Pledge>(place: &Option<Held<P>>, account: u8, day: u16) -> u64
-    ensures value { result ≡ counted account (λ p. numbers.cover p day) place.now }
+    ensures value { result ≡ counted account (λ p. P.numbers.cover p day) place.now }
     ensures most { result ≤ top_cents }
 {
     match place {
@@ -42,7 +42,7 @@ fn cover_at<P: Pledge>(place: &Option<Held<P>>, account: u8, day: u16) -> u64
 pub fn add_covers<P: Pledge>(shelf: &[Option<Held<P>>], day: u16, sums: &mut [u64])
     requires places { length shelf.now ≤ shelf_places }
     requires room { (k : ℕ) → k < length sums.old → slice_index sums.old k ≤ top_cover }
-    ensures value { (k : ℕ) → k < length sums.old → slice_index sums.new k ≡ slice_index sums.old k + cover_of numbers shelf.now k day }
+    ensures value { (k : ℕ) → k < length sums.old → slice_index sums.new k ≡ slice_index sums.old k + cover_of P.numbers shelf.now k day }
     ensures most { (k : ℕ) → k < length sums.old → slice_index sums.new k ≤ slice_index sums.old k + top_cover }
 {
     for place in shelf {
@@ -53,7 +53,7 @@ pub fn add_covers<P: Pledge>(shelf: &[Option<Held<P>>], day: u16, sums: &mut [u6
 /// Adds what one place covers.
 fn add_cover<P: Pledge>(place: &Option<Held<P>>, day: u16, sums: &mut [u64])
     requires { (k : ℕ) → k < length sums.old → slice_index sums.old k ≤ top_cover + top_cover }
-    ensures { (k : ℕ) → k < length sums.old → slice_index sums.new k ≡ slice_index sums.old k + counted k (λ p. numbers.cover p day) place.now }
+    ensures { (k : ℕ) → k < length sums.old → slice_index sums.new k ≡ slice_index sums.old k + counted k (λ p. P.numbers.cover p day) place.now }
 {
     if let Some(held) = place {
         let account = held.account as usize;

@@ -22,7 +22,7 @@ pub fn is_taken<P>(shelf: &[Option<Held<P>>], place: u8) -> bool
 
 /// What is lodged in a place, with its cover on a day; past the end of the shelf nothing is.
 pub fn lodged<P: Pledge>(shelf: &[Option<Held<P>>], place: u8, day: u16) -> Option<Lodging>
-    ensures { result ≡ lodging numbers day (at shelf.now place) }
+    ensures { result ≡ lodging P.numbers day (at shelf.now place) }
 {
     if place as usize >= shelf.len() {
         return None;

@@ -6,28 +6,28 @@ use Rattle.draw.proofs.draws.draw_on.Goals as goal
 pub loop-lack-init : goal.loop-lack-init
 loop-lack-init g c = start _ g.met.P.Pledge.rules (price_stands c.args.price)
 
-pub overflow-add-total : goal.overflow-add-total
-overflow-add-total g c =
+pub overflow_add-total : goal.overflow_add-total
+overflow_add-total g c =
     let on = step _ g.met.P.Pledge.rules (price_stands c.args.price) c.loop-lack.invariant c.loop-lack-test.true
-    c.in-Some.ensures c.draw-at-paid.ensures.yields c.draw-at-paid.ensures.left in
+    c.in-Some.ensures c.draw_at-paid.ensures.yields c.draw_at-paid.ensures.left in
     record { fits = omega (arith, on.within c.requires) }
 
 pub loop-lack-smaller : goal.loop-lack-smaller
 loop-lack-smaller g c =
     (step _ g.met.P.Pledge.rules (price_stands c.args.price) c.loop-lack.invariant c.loop-lack-test.true
-    c.in-Some.ensures c.draw-at-paid.ensures.yields c.draw-at-paid.ensures.left).fewer
+    c.in-Some.ensures c.draw_at-paid.ensures.yields c.draw_at-paid.ensures.left).fewer
 
 pub loop-lack-preserved : goal.loop-lack-preserved
 loop-lack-preserved g c =
     (step _ g.met.P.Pledge.rules (price_stands c.args.price) c.loop-lack.invariant c.loop-lack-test.true
-    c.in-Some.ensures c.draw-at-paid.ensures.yields c.draw-at-paid.ensures.left).going
-    c.saturating-sub-lack.result c.saturating-sub-lack.ensures
+    c.in-Some.ensures c.draw_at-paid.ensures.yields c.draw_at-paid.ensures.left).going
+    c.saturating_sub-lack.result c.saturating_sub-lack.ensures
 
-pub returns-in-default : goal.returns-in-default
-returns-in-default g c =
+pub returns-in_default : goal.returns-in_default
+returns-in_default g c =
     let rules = g.met.P.Pledge.rules in
     let priced = price_stands c.args.price in
-    let done = all_drawn _ rules priced c.loop-lack.invariant c.in-default.ensures in
+    let done = all_drawn _ rules priced c.loop-lack.invariant c.in_default.ensures in
     record {
       yields = done.yields;
       left = done.leaves;

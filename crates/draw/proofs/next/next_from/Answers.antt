@@ -7,7 +7,7 @@ use Rattle.draw.proofs.next.next_from.Goals as goal
 pub loop-k-preserved : goal.loop-k-preserved
 loop-k-preserved g c =
     nearest_more g.P.Pledge.numbers c.args.shelf.now c.args.account c.args.from
-    c.loop-k-test.true c.index-shelf-k.is c.loop-k.invariant c.candidate-at.ensures c.nearer-of-best.ensures
+    c.loop-k-test.true c.index-shelf-k.is c.loop-k.invariant c.candidate_at.ensures c.nearer_of-best.ensures
 
 pub returns : goal.returns
 returns g c =

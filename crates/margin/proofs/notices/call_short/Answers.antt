@@ -9,9 +9,9 @@ pub returns : goal.returns
 returns c =
     let t = c.args.table.now in
     let covers : ℕ → ℕ = λ k. get_or c.args.covers.now k 0 in
-    let after = ap (called t) c.short-word-word.ensures in
+    let after = ap (called t) c.short_word-word.ensures in
     record {
-      value = c.ones.ensures ∙ ap ones c.short-word-word.ensures;
+      value = c.ones.ensures ∙ ap ones c.short_word-word.ensures;
       done = after;
       sound = kept_as (called t (short_among t covers)) _ after (called_kept t c.requires.sound covers c.requires.hour);
     }

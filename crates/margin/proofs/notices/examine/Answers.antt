@@ -8,7 +8,7 @@ use Rattle.margin.proofs.notices.examine.Goals as goal
 pub returns-in-Some : goal.returns-in-Some
 returns-in-Some c =
     let t = c.args.table.now in
-    let after = ap (with_slips t) c.with-bit-table.ensures in
+    let after = ap (with_slips t) c.with_bit-table.ensures in
     record {
       value = c.lacking-lack.ensures;
       done = after ∙ ap (examined t c.args.place) (sym c.in-Some.is);
@@ -18,7 +18,7 @@ returns-in-Some c =
 pub returns-in-None : goal.returns-in-None
 returns-in-None c =
     let t = c.args.table.now in
-    let after = ap (with_notices t) c.without-bit-table.ensures in
+    let after = ap (with_notices t) c.without_bit-table.ensures in
     record {
       value = c.lacking-lack.ensures;
       done = after ∙ ap (examined t c.args.place) (sym c.in-None.is);

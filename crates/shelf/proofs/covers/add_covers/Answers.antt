@@ -4,8 +4,8 @@ use Rattle.shelf.specs.Places.{at, counted}
 use Rattle.shelf.proofs.Cover.{one_more_place, below_most_cover, cover_most}
 use Rattle.shelf.proofs.covers.add_covers.Goals as goal
 
-pub add-cover-requires : goal.add-cover-requires
-add-cover-requires g c κs k within =
+pub add_cover-requires : goal.add_cover-requires
+add_cover-requires g c k within =
     let a = c.args in
     let sum = c.loop-place.invariant k (omega arith) in
     let most = below_most_cover g.P.Pledge.numbers g.met.P.Pledge.rules a.shelf.now k a.day c.loop-place.place-index in
@@ -15,7 +15,7 @@ pub loop-place-preserved : goal.loop-place-preserved
 loop-place-preserved g c k within =
     let a = c.args in
     let more = one_more_place k (λ p. g.P.Pledge.numbers.cover p a.day) a.shelf.now c.loop-place-test.true c.place-item.is in
-    omega (arith, c.loop-place.invariant k within, c.add-cover.ensures k (omega arith))
+    omega (arith, c.loop-place.invariant k within, c.add_cover.ensures k (omega arith))
 
 pub returns : goal.returns
 returns g c =

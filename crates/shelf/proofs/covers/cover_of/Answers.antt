@@ -9,7 +9,7 @@ loop-place-preserved g c =
     let n = g.P.Pledge.numbers in
     let a = c.args in
     let more = one_more_place a.account (λ p. n.cover p a.day) a.shelf.now c.loop-place-test.true c.place-item.is in
-    (omega (arith, c.cover-at-sum.ensures.value, c.loop-place.invariant.0), omega arith)
+    (omega (arith, c.cover_at-sum.ensures.value, c.loop-place.invariant.0), omega arith)
 
 pub returns : goal.returns
 returns g c =

@@ -5,8 +5,8 @@ use Rattle.book.specs.Shelves.{both}
 use Rattle.book.proofs.Buying.{value_same, done_same, drawn_by_rules}
 use Rattle.book.proofs.book.Book.buy_in.Goals as goal
 
-pub draw-both-yields-requires : goal.draw-both-yields-requires
-draw-both-yields-requires g c =
+pub draw_both-yields-requires : goal.draw_both-yields-requires
+draw_both-yields-requires g c =
     let p = c.in-Ok.ensures.1 in
     record { first = omega (arith, p.first_whole); second = omega (arith, p.second_whole) }
 
@@ -22,13 +22,13 @@ settle-balance-requires g c =
         cost_none = λ none. p.cost_is ∙ ap (λ (o : ℕ). cost_of o c.args.execution) none;
         cost_most = p.cost_most;
         lack_is = p.lack_is;
-        yields_none = c.draw-both-yields.ensures.yields_none;
-        yields_most = c.draw-both-yields.ensures.yields_most;
+        yields_none = c.draw_both-yields.ensures.yields_none;
+        yields_most = c.draw_both-yields.ensures.yields_most;
       };
     }
 
-pub invariant-of-self : goal.invariant-of-self
-invariant-of-self g c =
+pub invariant_of-self : goal.invariant_of-self
+invariant_of-self g c =
     let s = c.settle-balance.ensures.sound in
     (s.dated, (s.begun, (s.sized, (s.priced, (s.loans, (s.balances, (s.terms, (s.earnings, (s.held, (s.noticed, (s.idle, tt)))))))))))
 
@@ -38,7 +38,7 @@ returns g c =
     let m = g.Q.Pledge.numbers in
     let t = c.args.self.now.table in
     let s = both c.args.first.now c.args.second.now in
-    let after = both c.draw-both-yields.new.first c.draw-both-yields.new.second in
+    let after = both c.draw_both-yields.new.first c.draw_both-yields.new.second in
     let k = c.args.slip.account in
     let e = c.args.execution in
     let found = c.in-Ok.ensures in
@@ -46,8 +46,8 @@ returns g c =
     record {
       acted = (
         found.0,
-        value_same n m t s after k e c.in-Ok.purchase c.draw-both-yields.result found.1 c.draw-both-yields.ensures _ (back ∙ c.settle-balance.ensures.value),
-        done_same n m t s after k e c.in-Ok.purchase c.draw-both-yields.result found.1 c.draw-both-yields.ensures _ c.settle-balance.ensures.done,
+        value_same n m t s after k e c.in-Ok.purchase c.draw_both-yields.result found.1 c.draw_both-yields.ensures _ (back ∙ c.settle-balance.ensures.value),
+        done_same n m t s after k e c.in-Ok.purchase c.draw_both-yields.result found.1 c.draw_both-yields.ensures _ c.settle-balance.ensures.done,
       );
-      drawn = drawn_by_rules n m t s after k e c.in-Ok.purchase c.draw-both-yields.result found.1 c.draw-both-yields.ensures;
+      drawn = drawn_by_rules n m t s after k e c.in-Ok.purchase c.draw_both-yields.result found.1 c.draw_both-yields.ensures;
     }

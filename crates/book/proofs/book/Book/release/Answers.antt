@@ -6,11 +6,11 @@ use Rattle.book.specs.Shelves.{both}
 use Rattle.book.proofs.Releases.{left_cover, left_cause}
 use Rattle.book.proofs.book.Book.release.Goals as goal
 
-pub cover-left-requires : goal.cover-left-requires
-cover-left-requires g c = record {
+pub cover_left-requires : goal.cover_left-requires
+cover_left-requires g c = record {
   table = search rules;
-  account = c.in-ok-backed.ensures.known.sound;
-  pledged = c.pledged-without-pledged.ensures.most;
+  account = c.in_ok-backed.ensures.known.sound;
+  pledged = c.pledged_without-pledged.ensures.most;
 }
 
 pub returns : goal.returns
@@ -20,15 +20,15 @@ returns g c =
     let m = g.Q.Pledge.numbers in
     let t = a.self.now.table in
     let s = both a.first.now a.second.now in
-    let b = c.in-ok-backed.backed in
-    let found = c.in-ok-backed.ensures.found in
-    let there = sym c.lodged-on-lodging.ensures ∙ found.1 in
-    let clear = ap (λ x. first (release_causes t (length a.first.now) (length a.second.now) a.shelf a.place x)) (sym c.lodged-on-lodging.ensures) ∙ found.0 in
-    let pledged = c.pledged-without-pledged.result in
-    let left = c.pledged-without-pledged.ensures.value in
-    let told = c.in-ok-cover.ensures in
-    let back : to_z w64 (of_z w64 c.in-ok-cover.cover) ≡ c.in-ok-cover.cover = omega (arith, ints, told.1) in (
+    let b = c.in_ok-backed.backed in
+    let found = c.in_ok-backed.ensures.found in
+    let there = sym c.lodged_on-lodging.ensures ∙ found.1 in
+    let clear = ap (λ x. first (release_causes t (length a.first.now) (length a.second.now) a.shelf a.place x)) (sym c.lodged_on-lodging.ensures) ∙ found.0 in
+    let pledged = c.pledged_without-pledged.result in
+    let left = c.pledged_without-pledged.ensures.value in
+    let told = c.in_ok-cover.ensures in
+    let back : to_z w64 (of_z w64 c.in_ok-cover.cover) ≡ c.in_ok-cover.cover = omega (arith, ints, told.1) in (
       left_cause n m s t a.shelf a.place b.lodging b.account pledged there found.2 left clear ∙ told.0,
       back ∙ told.1 ∙ sym (left_cover n m s t a.shelf a.place b.lodging b.account pledged there found.2 left),
-      c.empty-on.ensures,
+      c.empty_on.ensures,
     )

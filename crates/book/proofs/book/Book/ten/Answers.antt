@@ -12,9 +12,9 @@ pub returns : goal.returns
 returns g c =
     let t = c.args.self.now.table in
     let b = backing g.P.Pledge.numbers g.Q.Pledge.numbers (both c.args.first.now c.args.second.now) in
-    let word : short_among t (λ k. get_or c.all-covers-covers.result k 0) ≡ short_word b t =
-    word_same _ _ account_places (λ k l. ap (short t (account_at t k)) (c.all-covers-covers.ensures.value k l)) in (
-      c.in-ok-to-ten.ensures.answer.0,
-      c.call-short.ensures.value ∙ ap ones word,
-      c.call-short.ensures.done ∙ ap (called t) word,
+    let word : short_among t (λ k. get_or c.all_covers-covers.result k 0) ≡ short_word b t =
+    word_same _ _ account_places (λ k l. ap (short t (account_at t k)) (c.all_covers-covers.ensures.value k l)) in (
+      c.in_ok-to_ten.ensures.answer.0,
+      c.call_short.ensures.value ∙ ap ones word,
+      c.call_short.ensures.done ∙ ap (called t) word,
     )

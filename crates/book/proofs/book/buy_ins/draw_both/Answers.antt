@@ -12,14 +12,14 @@ returns g c =
     let price = c.args.purchase.block_price.cents in
     let first = c.args.first.now in
     let second = c.args.second.now in
-    let on_first = c.draw-on-from-first.ensures in
-    let on_second = c.draw-on-from-second.ensures in
-    let still : c.saturating-sub-still.result ≡ c.args.purchase.lack - yielded n first k c.args.purchase.lack day price =
-    c.saturating-sub-still.ensures ∙ ap (λ (x : ℕ). c.args.purchase.lack - x) on_first.yields in
+    let on_first = c.draw_on-from_first.ensures in
+    let on_second = c.draw_on-from_second.ensures in
+    let still : c.saturating_sub-still.result ≡ c.args.purchase.lack - yielded n first k c.args.purchase.lack day price =
+    c.saturating_sub-still.ensures ∙ ap (λ (x : ℕ). c.args.purchase.lack - x) on_first.yields in
     record {
-      yields_is = ap (λ (x : ℕ). x + c.draw-on-from-second.result) on_first.yields
+      yields_is = ap (λ (x : ℕ). x + c.draw_on-from_second.result) on_first.yields
           ∙ ap (λ (y : ℕ). yielded n first k c.args.purchase.lack day price + y) (on_second.yields ∙ ap (λ (a : ℕ). yielded m second k a day price) still);
-      after_is = ap (λ x. both x c.draw-on-from-second.new.shelf) on_first.left
+      after_is = ap (λ x. both x c.draw_on-from_second.new.shelf) on_first.left
           ∙ ap (λ x. both (drawn n first k c.args.purchase.lack day price) x) (on_second.left ∙ ap (λ (a : ℕ). drawn m second k a day price) still);
       yields_none = λ none. omega (arith, on_first.none none, on_second.none (omega (arith, still)));
       yields_most = omega (arith, on_first.most, on_second.most);
