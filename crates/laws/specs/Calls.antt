@@ -6,21 +6,8 @@ use Rattle.table.specs.Act.{Acted}
 use Rattle.table.specs.Days.{open_act}
 use Rattle.table.specs.Accounts.{enrol_act, apply_act, return_act, deposit_act}
 use Rattle.table.specs.Offers.{offer_act, withdraw_act}
-use Rattle.table.specs.Elevens.{eleven_act, pay_out_act}
-use Rattle.margin.specs.Notices.{ten_act, wait_act}
 use Rattle.book.specs.declared.book.Book.{Book}
-use Rattle.book.specs.declared.examined.Examined.{Examined}
-use Rattle.book.specs.declared.pledged.Pledged.{Pledged}
-use Rattle.book.specs.declared.slip.Slip.{Slip}
-use Rattle.book.specs.Shelves.{Shelves, backing}
-use Rattle.book.specs.Collateral.{pledge_act, release_act}
-use Rattle.book.specs.Examinations.{Examination}
-use Rattle.book.specs.Refunds.{refund_act}
-use Rattle.book.specs.declared.handed_back.HandedBack.{HandedBack}
-use Rattle.book.specs.BuyIns.{ActedOn, buy_in_act}
-use Rattle.margin.specs.declared.execution.Execution.{Execution}
-use Rattle.book.specs.States.{state}
-use Rattle.laws.specs.Worlds.{World, with_book, with_shelves, world, state_of}
+use Rattle.laws.specs.Worlds.{World, with_book}
 
 module _ {P Q : Type 0} (n : Numbers P) (m : Numbers Q) where
   -- one call on the book of a world; its last argument is what the call promises
@@ -32,15 +19,6 @@ module _ {P Q : Type 0} (n : Numbers P) (m : Numbers Q) where
     applies : (b : Book) (account units : ℕ) (r : Result ℕ Refusal) → Acted (apply_act account units) w.book.table b.table r → Call w (with_book w b)
     returns : (b : Book) (account units : ℕ) (r : Result ℕ Refusal) → Acted (return_act account units) w.book.table b.table r → Call w (with_book w b)
     deposits : (b : Book) (account cents : ℕ) (r : Result ℤ Refusal) → Acted (deposit_act account cents) w.book.table b.table r → Call w (with_book w b)
-    pledges : (s : Shelves P Q) (account place : ℕ) (p : Pledged P Q) (r : Result ℤ Refusal) → Acted (pledge_act n m w.book.table account place p) w.shelves s r → Call w (with_shelves w s)
-    releases : (s : Shelves P Q) (shelf place : ℕ) (r : Result ℤ Refusal) → Acted (release_act n m w.book.table shelf place) w.shelves s r → Call w (with_shelves w s)
-    tens : (b : Book) (r : Result ℕ Refusal) → Acted (ten_act (backing n m w.shelves)) w.book.table b.table r → Call w (with_book w b)
-    examines : (b : Book) (account : ℕ) (r : Result Examined Refusal) → Examination (backing n m w.shelves) account w.book.table b.table r → Call w (with_book w b)
-    elevens : (b : Book) (r : Result (ℕ × ℕ) Refusal) → Acted eleven_act w.book.table b.table r → Call w (with_book w b)
-    pays_out : (b : Book) (place : ℕ) (r : Result (ℕ × ℕ) Refusal) → Acted (pay_out_act place) w.book.table b.table r → Call w (with_book w b)
-    waits : (b : Book) (slip : Slip) (r : Result (Unit {0}) Refusal) → Acted (wait_act slip.account) w.book.table b.table r → Call w (with_book w b)
-    refunds : (b : Book) (s : Shelves P Q) (account : ℕ) (r : Result ℕ Refusal) → Acted (refund_act account) (state_of w) (state b.table s) r → Call w (world b s)
-    buys_in : (b : Book) (s : Shelves P Q) (slip : Slip) (e : Execution) (r : Result (ℕ × ℤ) HandedBack) → ActedOn slip (buy_in_act n m slip.account e) (state_of w) (state b.table s) r → Call w (world b s)
 
   -- calls one after another: each picks up book and shelves as the one before put them down
   pub data Calls : World P Q → World P Q → Type 0 where

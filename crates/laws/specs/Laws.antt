@@ -1,74 +1,21 @@
 -- The laws of the book, over every run of calls: however many, in any order, with any inputs.
-use Rattle.std.specs.Prelude.{◌≡◌, ℕ, ◌+◌, ◌<◌, Bool, true, false, ◌⊎◌, ℤ, pos, ◌+ℤ◌, ◌≤ℤ◌, ◌<ℤ◌, Ok, Decides, count_ones}
+use Rattle.std.specs.Prelude.{◌≡◌, ℕ, ◌+◌, ◌<◌, ℤ, pos, ◌+ℤ◌, count_ones}
 use Rattle.pledge.specs.Numbers.{Numbers}
-use Rattle.bits.specs.Bit.{bit}
 use Rattle.lending.specs.Sound.{account_places}
-use Rattle.table.specs.Tables.{account_at, calling}
-use Rattle.table.specs.Act.{Acted}
-use Rattle.table.specs.Elevens.{eleven_act}
-use Rattle.margin.specs.Margins.{cover_at, floor_at, target_at, units_of}
-use Rattle.margin.specs.Notices.{ten_act}
-use Rattle.book.specs.declared.book.Book.{Book}
-use Rattle.book.specs.declared.examined.Examined.{Examined}
-use Rattle.book.specs.declared.examined.Examined.TheVariants.{Met, Short}
-use Rattle.margin.specs.declared.execution.Execution.{Execution}
-use Rattle.book.specs.declared.slip.Slip.{Slip}
-use Rattle.book.specs.BuyIns.{ActedOn, buy_in_act}
-use Rattle.book.specs.States.{state}
-use Rattle.book.specs.Shelves.{Shelves, backing}
-use Rattle.book.specs.Examinations.{Examination}
-use Rattle.laws.specs.Worlds.{World, New, state_of}
-use Rattle.laws.specs.Order.{InOrder}
+use Rattle.laws.specs.Worlds.{World, New}
 use Rattle.laws.specs.Calls.{Calls}
-use Rattle.laws.specs.Entries.{sum_over, earned, balance_at, all_places}
-
-abbrev pub is_met : Examined → Bool
-is_met Met = true
-is_met (Short lack slip) = false
+use Rattle.laws.specs.Sums.{deposited, yielded, charged, cost, refunded, paid_by, issued_by, met_by, bought_by, sum_over, earned, balance_at, all_places}
 
 module _ {P Q : Type 0} (n : Numbers P) (m : Numbers Q) where
-  -- the account at a place has units, owed or applied for
-  abbrev pub HasUnits : World P Q → ℕ → Type 0
-  HasUnits w k = 0 < units_of (account_at w.book.table k)
-
-  -- its cover is below its floor, at its floor or above, at its target or above
-  abbrev pub BelowFloor : World P Q → ℕ → Type 0
-  BelowFloor w k = cover_at (backing n m w.shelves) w.book.table k <ℤ pos (floor_at w.book.table k)
-
-  abbrev pub AtFloor : World P Q → ℕ → Type 0
-  AtFloor w k = pos (floor_at w.book.table k) ≤ℤ cover_at (backing n m w.shelves) w.book.table k
-
-  abbrev pub AtTarget : World P Q → ℕ → Type 0
-  AtTarget w k = pos (target_at w.book.table k) ≤ℤ cover_at (backing n m w.shelves) w.book.table k
-
-  -- what a run adds up to
-  pub record AddsUp {w u : World P Q} (run : Calls n m w u) : Type 0 where
+  pub record Laws {w u : World P Q} (run : Calls n m w u) : Type 0 where
     -- at each account place: deposits and yields are fees, costs, refunds and what is there
     pub sum : (k : ℕ) → k < account_places →
-        (pos (sum_over n m (λ e. e.deposit k) run + sum_over n m (λ e. e.yield k) run)
-        ≡ (pos (sum_over n m (λ e. e.fee k) run + sum_over n m (λ e. e.cost k) run + sum_over n m (λ e. e.refund k) run) +ℤ balance_at u.book.table k))
+        (pos (sum_over n m (deposited n m k) run + sum_over n m (yielded n m k) run)
+        ≡ (pos (sum_over n m (charged n m k) run + sum_over n m (cost n m k) run + sum_over n m (refunded n m k) run) +ℤ balance_at u.book.table k))
     -- all fees were paid to lenders and brokers, or are still owed to them
-    pub earnings : all_places (λ k. sum_over n m (λ e. e.fee k) run) ≡ sum_over n m (λ e. e.paid) run + earned u.book.table
+    pub earnings : all_places (λ k. sum_over n m (charged n m k) run) ≡ sum_over n m (paid_by n m) run + earned u.book.table
     -- every notice was met, was bought in, or is open
-    pub count : sum_over n m (λ e. e.issued) run ≡ sum_over n m (λ e. e.met) run + sum_over n m (λ e. e.bought) run + count_ones u.book.table.notices
-
-  pub record Laws {w u : World P Q} (run : Calls n m w u) : Type 0 where
-    pub adds_up : AddsUp run
-    -- a ten that is accepted next gives account k a notice exactly where it has units and cover below its floor
-    pub marked : (b : Book) (given : ℕ) → Acted (ten_act (backing n m u.shelves)) u.book.table b.table (Ok given) →
-        (k : ℕ) → k < account_places → Decides (bit b.table.notices k) (HasUnits u k × BelowFloor u k)
-    -- an examine that is accepted next finds the notice met exactly where cover is at the target or above
-    pub found_met : (b : Book) (account : ℕ) (found : Examined) → Examination (backing n m u.shelves) account u.book.table b.table (Ok found) →
-        Decides (is_met found) (AtTarget u account)
-    -- in the calling hour an account with units has an open notice, or cover at its floor or above
-    pub watched : (k : ℕ) → k < account_places → calling u.book.table.hour ≡ true → HasUnits u k →
-        (bit u.book.table.notices k ≡ true) ⊎ AtFloor u k
-    -- where an eleven is accepted next, no account with units has cover below its floor
-    pub clear_at_eleven : (b : Book) (answer : ℕ × ℕ) → Acted eleven_act u.book.table b.table (Ok answer) →
-        (k : ℕ) → k < account_places → HasUnits u k → AtFloor u k
-    -- a buy in that is accepted next uses cash before pledges, and pledges in their order
-    pub in_order : (b : Book) (s : Shelves P Q) (slip : Slip) (e : Execution) (answer : ℕ × ℤ) →
-        ActedOn slip (buy_in_act n m slip.account e) (state_of u) (state b.table s) (Ok answer) → InOrder n m u b s slip.account e
+    pub count : sum_over n m (issued_by n m) run ≡ sum_over n m (met_by n m) run + sum_over n m (bought_by n m) run + count_ones u.book.table.notices
 
   -- of every run from a new world
   abbrev pub BookLaws : Type 0

@@ -1,5 +1,4 @@
 pub mod Worlds
 pub mod Calls
-pub mod Entries
-pub mod Order
+pub mod Sums
 pub mod Laws

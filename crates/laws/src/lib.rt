@@ -1,4 +1,4 @@
-//! What holds of every run of calls on a book.
+//! What holds of every run of calls on a book: of the seven that need no margin.
 #![tactic(auto)]
 
 ghost use Rattle.laws.specs.Laws.{BookLaws};

@@ -2,12 +2,12 @@
 ghost use Rattle.std.specs.Prelude.{◌≡◌, ◌*◌, ◌≤◌, true, length, pos, ◌-ℤ◌, ◌≤ℤ◌, IfOk, Some};
 ghost use Rattle.lending.specs.Measures.{top_floor};
 ghost use Rattle.lending.specs.Sound.{SoundAccount, lowest};
-ghost use Rattle.table.specs.Act.{Found, first as first-cause};
+ghost use Rattle.table.specs.Act.{first as first-cause};
 ghost use Rattle.table.specs.Limits.{last_day};
 ghost use Rattle.table.specs.Tables.{account_at, elevens};
 ghost use Rattle.shelf.specs.Limits.{top_cover, shelf_places};
 ghost use Rattle.book.specs.Shelves.{both, backing};
-ghost use Rattle.book.specs.Statements.{Stated, statement_causes, stated};
+ghost use Rattle.book.specs.Statements.{Found, Stated, statement_causes, stated};
 
 use crate::book::Book;
 use crate::statement::{Loan, Money, Statement};
@@ -25,7 +25,7 @@ impl Book {
         second: &[Option<Held<Q>>],
         account: u8,
     ) -> Result<Statement, Refusal>
-        ensures { Stated (backing P.Pledge.numbers Q.Pledge.numbers (both first.now second.now)) self.now.table account result }
+        ensures { Stated P.Pledge.numbers Q.Pledge.numbers self.now.table first.now second.now account result }
     {
         let a = self.account_to_state(first.len(), second.len(), account)?;
         Ok(self.state(a, pledged_on(first, second, account, self.table.day)))

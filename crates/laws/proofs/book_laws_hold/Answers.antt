@@ -2,4 +2,4 @@ use Rattle.laws.proofs.Runs.{laws}
 use Rattle.laws.proofs.book_laws_hold.Goals as goal
 
 pub returns : goal.returns
-returns g c = laws g.P.Pledge.numbers g.Q.Pledge.numbers g.met.P.Pledge.rules g.met.Q.Pledge.rules
+returns g c = laws g.P.Pledge.numbers g.Q.Pledge.numbers

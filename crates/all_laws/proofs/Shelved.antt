@@ -22,8 +22,8 @@ use Rattle.book.specs.declared.pledged.Pledged.{Pledged}
 use Rattle.book.specs.declared.pledged.Pledged.TheVariants.{First, Second}
 use Rattle.book.specs.Shelves.{Shelves, backing, with_first, with_second, emptied}
 use Rattle.book.specs.Collateral.{filled, expiry_of, lodged, lodging_today, cover_without, pledge_act, release_act}
-use Rattle.laws.proofs.Measured.{is_reached, not_short, short_with_less}
-use Rattle.laws.proofs.Watch.{Watched, watched_still, covers_watched}
+use Rattle.all_laws.proofs.Measured.{is_reached, not_short, short_with_less}
+use Rattle.all_laws.proofs.Watch.{Watched, watched_still, covers_watched}
 
 -- shelves that are not refused are whole
 whole : (f s : ℕ) → cut f s ≡ false → (f ≡ shelf_places) × (s ≡ shelf_places)

@@ -13,8 +13,8 @@ use Rattle.table.specs.Offers.{unpaid}
 use Rattle.margin.specs.BuyIns.{cost_of}
 use Rattle.margin.specs.Margins.{cover_at, target_at}
 use Rattle.book.specs.Shelves.{backing}
-use Rattle.laws.specs.Worlds.{World}
-use Rattle.laws.specs.Calls.{Call, opens, enrols, offers, withdraws, applies, returns, deposits, pledges, releases, tens, examines, waits, elevens, pays_out, refunds, buys_in, Calls, start, then}
+use Rattle.all_laws.specs.Worlds.{World}
+use Rattle.all_laws.specs.Calls.{Call, opens, enrols, offers, withdraws, applies, returns, deposits, pledges, releases, tens, examines, waits, elevens, pays_out, refunds, Calls, start, then}
 
 -- both parts of a pair of earnings
 abbrev pub both_parts : ℕ × ℕ → ℕ
@@ -31,10 +31,6 @@ balance_at t place = balance_of (account_at t place)
 -- the sum over all account places
 unfoldable pub all_places : (ℕ → ℕ) → ℕ
 all_places f = below account_places f
-
--- fallen n before after account day price: by how much what the account's pledges on a shelf can pay has fallen
-abbrev pub fallen : {P : Type 0} → Numbers P → List (Option (Held P)) → List (Option (Held P)) → ℕ → ℕ → ℕ → ℕ
-fallen n before after account day price = all_can_pay n before account day price - all_can_pay n after account day price
 
 -- What one call enters: cents at each account place, cents paid for offers, and notices.
 pub record Entry : Type 0 where
@@ -118,21 +114,6 @@ module _ {P Q : Type 0} (n : Numbers P) (m : Numbers Q) where
   entry w u (refunds b s account (Ok cents) d) =
       record { deposit = nothing; yield = nothing; fee = nothing; cost = nothing; refund = only account cents; paid = 0; issued = 0; met = 0; bought = 0 }
   entry w u (refunds b s account (Err e) d) = no_entry
-  -- a pledge yields what it can pay less; the owed units are bought
-  entry w u (buys_in b s slip e (Ok x) d) =
-      record {
-        deposit = nothing;
-        fee = nothing;
-        refund = nothing;
-        paid = 0;
-        issued = 0;
-        met = 0;
-        bought = 1;
-        yield = only slip.account (fallen n w.shelves.first s.first slip.account w.book.table.day e.block_price
-            + fallen m w.shelves.second s.second slip.account w.book.table.day e.block_price);
-        cost = only slip.account (cost_of (owed_of (account_at w.book.table slip.account)) e);
-      }
-  entry w u (buys_in b s slip e (Err back) d) = no_entry
 
   -- a figure of the entries of a run, added up
   abbrev pub sum_over : (Entry → ℕ) → {w u : World P Q} → Calls n m w u → ℕ

@@ -14,7 +14,7 @@ use Rattle.table.specs.Accounts.{balance_of, with_balance}
 use Rattle.margin.specs.Backing.{Backing}
 use Rattle.margin.specs.Margins.{cover_at, target_at, short, short_at}
 use Rattle.margin.specs.Notices.{called, examined, short_word}
-use Rattle.laws.proofs.Measured.{not_short, short_with_less}
+use Rattle.all_laws.proofs.Measured.{not_short, short_with_less}
 
 abbrev pub Watched : Backing → Table → Type 0
 Watched b t = (k : ℕ) → k < account_places → (calling t.hour && short_at b t k) ≡ true → bit t.notices k ≡ true

@@ -1,0 +1,4 @@
+pub mod Worlds
+pub mod Calls
+pub mod Entries
+pub mod Laws
