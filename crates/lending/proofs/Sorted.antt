@@ -1,15 +1,14 @@
 -- Sorted ranks are in order.
-use Rattle.std.proofs.Common.{◌≡◌, ℕ, zero, suc, ◌+◌, ◌<◌, ◌≤◌, List, map, length, get_or, take, sum_by, Option, Ordering, sym, refl, ap, ◌∙◌, add-one, arith}
+use Rattle.std.proofs.Common.{◌≡◌, ℕ, zero, suc, ◌+◌, ◌≤◌, List, map, length, get_or, take, sum_by, Option, Ordering, sym, refl, ap, ◌∙◌, add-one, arith}
 use lib.Seq.{take-length}
 use Rattle.std.proofs.lemmas.List.FromFn.{length-map-range_with_len, get_or-map-range_with_len}
 use Rattle.std.proofs.lemmas.List.Sorted.{sum_by-IsPermutation, sorted_far}
 use Rattle.std.proofs.lemmas.List.Sums.{sum_by_more}
 use Rattle.std.proofs.lemmas.Bool.Decides.{nat_tests}
-use Rattle.std.specs.Cmp.Derive.{Lex, on, fields}
 use Rattle.std.specs.List.{range_with_len}
-use Rattle.std.specs.Ordering.{is_lt, MatchOrdering}
+use Rattle.std.specs.Ordering.{is_lt, nat_cmp, ordering_then}
 use Rattle.std.specs.List.Sorted.{IsPermutation, IsSortedWithin}
-use Rattle.std.specs.Cmp.{IsStrictWeakOrder, IsTotalOrder, nat_cmp_total}
+use Rattle.std.specs.Cmp.{IsStrictWeakOrder}
 use Rattle.sums.specs.Below.{below}
 use Rattle.sums.proofs.Sums.{below_same}
 use Rattle.lending.specs.declared.offer.Offer.{Offer}
@@ -25,16 +24,12 @@ sum_front f xs (suc i) l =
 sum_all : (f : Rank → ℕ) (xs : List Rank) → below (length xs) (λ j. f (nth xs j)) ≡ sum_by f xs
 sum_all f xs = sum_front f xs (length xs) (omega arith) ∙ ap (sum_by f) (take-length xs)
 
--- the answers of a comparison of two numbers
-abbrev compared : ℕ → ℕ → Ordering → Type 0
-compared m n r = MatchOrdering r (m < n) (m ≡ n) (n < m)
-
 -- the order that ranks derive
-abbrev pub by_rate_and_place : IsTotalOrder (λ (a b : Rank). Lex (compared a.rate b.rate) (compared a.place b.place))
-by_rate_and_place = on (λ (r : Rank). (r.rate, r.place)) (fields nat_cmp_total nat_cmp_total)
+abbrev pub by_rate_and_place : Rank → Rank → Ordering
+by_rate_and_place a b = ordering_then (nat_cmp a.rate b.rate) (nat_cmp a.place b.place)
 
 -- it puts the earlier rank first
-less_earlier : (a b : Rank) → is_lt (by_rate_and_place.cmp a b) ≡ earlier a b
+less_earlier : (a b : Rank) → is_lt (by_rate_and_place a b) ≡ earlier a b
 less_earlier a b = grind (arith, nat_tests)
 
 -- any two ranks compare
@@ -42,7 +37,7 @@ earlier_ranks : IsStrictWeakOrder earlier
 earlier_ranks = record { one_way = λ a b h. grind (arith, nat_tests); chain = λ a b c h k. grind (arith, nat_tests) }
 
 pub sorted : (os : List (Option Offer)) (ranks after : List Rank) → ranks ≡ map (rank_at os) (range_with_len 0 (length os)) →
-    IsPermutation ranks after → length after ≡ length ranks → IsSortedWithin (λ a b. is_lt (by_rate_and_place.cmp a b)) after 0 (length ranks) → Ordered os after
+    IsPermutation ranks after → length after ≡ length ranks → IsSortedWithin (λ a b. is_lt (by_rate_and_place a b)) after 0 (length after) → Ordered os after
 sorted os ranks after made same long up = record {
   long = size;
   rising = λ i j l m. sorted_far earlier earlier_ranks after (λ k d l m. sym (less_earlier (get_or after (k + 1) d) (get_or after k d)) ∙ up k d l (omega arith)) i j lowest_rank l m;

@@ -36,9 +36,9 @@ top_share_price = 2000000
 abbrev pub top_charges : ℕ
 top_charges = 1000000000
 
--- the most that one buy in costs
+-- the most that one buy in costs: a thousand units at 2,000,000 cents a share, and charges of 1,000,000,000
 abbrev pub top_cost : ℕ
-top_cost = shares * top_units * top_share_price + top_charges
+top_cost = shares * top_units * 2000000 + 1000000000
 
 -- the highest balance
 abbrev pub top_balance : ℕ

@@ -12,7 +12,7 @@ pay-requires c =
       earned = c.requires.earned;
       earlier = c.loop-k.invariant.long;
       within = within top_elevens xs c.requires.sound c.args.earned.now c.loop-k.accounts c.loop-k.earlier c.loop-k.k c.loop-k.invariant c.args.needs.now (omega arith) c.requires.need;
-      goal = λ s. omega (arith, c.requires.need s, units_below_most top_elevens xs c.requires.sound s (length xs));
+      need = λ s. omega (arith, c.requires.need s, units_below_most top_elevens xs c.requires.sound s (length xs));
       most = c.requires.most;
       sound = sound_here top_elevens xs c.requires.sound c.args.earned.now c.loop-k.accounts c.loop-k.earlier c.loop-k.k c.loop-k.invariant;
     }

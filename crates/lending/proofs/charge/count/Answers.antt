@@ -3,8 +3,8 @@ use Rattle.lending.specs.Lending.{units_in}
 use Rattle.lending.proofs.Tallies.{added}
 use Rattle.lending.proofs.charge.count.Goals as goal
 
-pub overflow-add-units : goal.overflow-add-units
-overflow-add-units c = omega (arith, (c.requires.sound c.in-Some.a c.in-Some.is).0.1)
+pub overflow_add-units : goal.overflow_add-units
+overflow_add-units c = omega (arith, (c.requires.sound c.in-Some.a c.in-Some.is).0.1)
 
 pub bounds-units-a : goal.bounds-units-a
 bounds-units-a c = omega (arith, (c.requires.sound c.in-Some.a c.in-Some.is).0.0)

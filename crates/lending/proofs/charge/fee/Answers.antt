@@ -2,8 +2,8 @@ use Rattle.std.proofs.Common.{◌+◌, arith}
 use Rattle.lending.proofs.Parts.{share_up, share_step}
 use Rattle.lending.proofs.charge.fee.Goals as goal
 
-pub overflow-sub-result : goal.overflow-sub-result
-overflow-sub-result c = omega (arith, share_up c.args.all c.args.earlier (c.args.earlier + c.args.units) c.args.need (omega arith))
+pub overflow_sub-result : goal.overflow_sub-result
+overflow_sub-result c = omega (arith, share_up c.args.all c.args.earlier (c.args.earlier + c.args.units) c.args.need (omega arith))
 
 pub returns : goal.returns
 returns c = record {

@@ -9,8 +9,8 @@ use Rattle.lending.proofs.Bounds.{balance_low}
 use Rattle.lending.proofs.Fees.{own_units}
 use Rattle.lending.proofs.charge.pay.Goals as goal
 
-pub overflow-add-a : goal.overflow-add-a
-overflow-add-a c = omega (arith, (c.requires.sound c.in-Some.a c.in-Some.is).0.1)
+pub overflow_add-a : goal.overflow_add-a
+overflow_add-a c = omega (arith, (c.requires.sound c.in-Some.a c.in-Some.is).0.1)
 
 pub bounds-earned-s : goal.bounds-earned-s
 bounds-earned-s c = omega (arith, (c.requires.sound c.in-Some.a c.in-Some.is).0.0, c.requires.earned)
@@ -26,7 +26,7 @@ fee-due-requires c =
     let a = c.in-Some.a in
     record {
       within = omega (arith, c.requires.within a.security, ap (units_in a.security) c.in-Some.is, own_units a);
-      goal = c.requires.need a.security;
+      need = c.requires.need a.security;
       most = c.requires.most a.security;
     }
 
@@ -41,7 +41,7 @@ returns-in-Some c =
     let a = c.in-Some.a in
     let sound = c.requires.sound c.in-Some.a c.in-Some.is in
     let low = balance_low top_elevens c.in-Some.a sound in
-    let paid : to_z w64 (of_z w64 c.less-a.result) ≡ a.balance -ℤ pos c.fee-due.result = omega (arith, ints, c.less-a.ensures, c.less-a.type-inv, sound.1.1) in
+    let paid : to_z w64 (of_z w64 c.less-a.result) ≡ a.balance -ℤ pos c.fee-due.result = omega (arith, ints, c.less-a.ensures, c.less-a.type_inv, sound.1.1) in
     ap (λ z. Some (with_balance a z)) (paid ∙ ap (λ n. a.balance -ℤ pos n) c.fee-due.ensures.value)
     ∙ sym (ap (λ p. option_map (λ a. charged a (pays c.args.earned.now c.args.needs.now c.args.earlier.now p)) p) c.in-Some.is)
   where

@@ -28,7 +28,7 @@ charge-requires c =
       places = c.requires.accounts;
       needs = search rules;
       earned = search rules;
-      goal = c.needs-needs.ensures;
+      need = c.needs-needs.ensures;
       most = λ s. omega (
         arith,
         c.needs-needs.ensures s,
@@ -40,25 +40,25 @@ charge-requires c =
     }
 
 pub total-requires : goal.total-requires
-total-requires c = (search rules, c.lend-earned.ensures.most)
+total-requires c = record { sums_len = search rules; by_index = c.lend-earned.ensures.most }
 
 pub total-requires-2 : goal.total-requires-2
-total-requires-2 c = (
-  search rules,
-  λ s. omega (arith, c.given-given.ensures.left s, c.needs-needs.ensures s, units_below_most top_elevens c.args.accounts.now c.requires.loans s (length c.args.accounts.now), c.requires.accounts),
-)
+total-requires-2 c = record {
+  sums_len = search rules;
+  by_index = λ s. omega (arith, c.given-given.ensures.left s, c.needs-needs.ensures s, units_below_most top_elevens c.args.accounts.now c.requires.loans s (length c.args.accounts.now), c.requires.accounts);
+}
 
 pub returns : goal.returns
 returns c =
     let xs = c.args.accounts.now in
     let os = c.args.offers.now in
-    let rules = c.needs-needs.ensures in
+    let needs = c.needs-needs.ensures in
     let own : (k : ℕ) → get_or c.given-given.result k 0 ≡ own_given xs os k =
-    λ k. c.given-given.ensures.units k ∙ gives_alike os (λ s. get_or c.needs-needs.result s 0) (need_of xs) rules k (at os k) in
+    λ k. c.given-given.ensures.units k ∙ gives_alike os (λ s. get_or c.needs-needs.result s 0) (need_of xs) needs k (at os k) in
     let earned : (s : ℕ) → get_or c.lend-earned.result s 0 ≡ earned_in xs os s =
     λ s. c.lend-earned.ensures.earned s ∙ earned_is xs os (λ k. get_or c.given-given.result k 0) own s in
     let left : (s : ℕ) → get_or c.given-given.new.left s 0 ≡ short_in xs os s =
-    λ s. c.given-given.ensures.left s ∙ ap (λ q. q - offered_all os s) (rules s) ∙ short_is xs os s in
+    λ s. c.given-given.ensures.left s ∙ ap (λ q. q - offered_all os s) (needs s) ∙ short_is xs os s in
     let accounts : c.charge.new.accounts ≡ accounts_after xs os =
     accounts_are xs os c.charge.new.accounts (omega arith)
     (λ k. c.charge.ensures k ∙ ap (λ n. option_map (λ a. charged a n) (at xs k)) (pays_alike xs (λ s. get_or c.lend-earned.result s 0) (earned_in xs os) earned k (at xs k))) in

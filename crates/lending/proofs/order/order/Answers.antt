@@ -1,13 +1,13 @@
 use Rattle.std.proofs.Common.{arith}
 use Rattle.lending.specs.Steps.{Ordered}
 use Rattle.lending.proofs.Ranks.{place_inside}
-use Rattle.lending.proofs.Sorted.{sorted, by_rate_and_place}
+use Rattle.lending.proofs.Sorted.{sorted}
 use Rattle.lending.proofs.order.order.Goals as goal
 
 pub returns : goal.returns
 returns c =
-    let after = c.sort-unstable.new.self in
+    let after = c.sort_unstable.new.self in
     let ordered : Ordered c.args.offers.now after =
     sorted c.args.offers.now c.ranks-ranks.result after c.ranks-ranks.ensures
-    c.sort-unstable.ensures.permutation c.sort-unstable.ensures.len (c.sort-unstable.ensures.sorted by_rate_and_place) in
+    c.sort_unstable.ensures.permutation c.sort_unstable.ensures.len c.sort_unstable.ensures.sorted in
     record { ordered = ordered; inside = λ j l. omega (arith, c.requires, place_inside c.args.offers.now after ordered j (omega (arith, c.requires))) }
