@@ -65,7 +65,6 @@ module _ (t : Table) (s : Sound t) where
       let as_before : elevens t ≡ elevens (called t (short_among t covers)) = ap (λ h. elevens (record { day = t.day; hour = h; prices = t.prices; accounts = t.accounts; offers = t.offers; notices = t.notices; slips = t.slips })) morning in
       record {
         dated = s.dated;
-        begun = λ _. s.begun (ap blank morning);
         sized = s.sized;
         priced = s.priced;
         loans = s.loans;
@@ -81,7 +80,6 @@ module _ (t : Table) (s : Sound t) where
   pub closed_kept : (i : ℕ) → bit t.slips i ≡ false → Sound (with_notices t (without_bit t.notices i))
   closed_kept i free = record {
     dated = s.dated;
-    begun = s.begun;
     sized = s.sized;
     priced = s.priced;
     loans = s.loans;
@@ -97,7 +95,6 @@ module _ (t : Table) (s : Sound t) where
   slips_kept : (word : ℕ) → ((n : ℕ) → bit word n ≡ true → bit t.notices n ≡ true) → Sound (with_slips t word)
   slips_kept word h = record {
     dated = s.dated;
-    begun = s.begun;
     sized = s.sized;
     priced = s.priced;
     loans = s.loans;
@@ -129,7 +126,6 @@ module _ (t : Table) (s : Sound t) where
       subst (λ (o : Option Account). Sound (closed_with t i o)) (sym slot)
       (record {
         dated = put.dated;
-        begun = put.begun;
         sized = put.sized;
         priced = put.priced;
         loans = put.loans;
@@ -147,7 +143,6 @@ module _ (t : Table) (s : Sound t) where
   pub vacated_kept : (i : ℕ) → calling t.hour ≡ false → Sound (with_account t i None)
   vacated_kept i idle = record {
     dated = s.dated;
-    begun = s.begun;
     sized = (length-set t.accounts i None ∙ s.sized.0, s.sized.1);
     priced = s.priced;
     loans = each_put SoundLoan t.accounts i None (of_none SoundLoan) s.loans;

@@ -6,7 +6,7 @@ ghost use Rattle.lending.specs.Sound.{account_places, lowest, top_balance, top_c
 ghost use Rattle.shelf.specs.Limits.{top_cover};
 ghost use Rattle.table.specs.Act.{first as first-cause};
 ghost use Rattle.table.specs.Limits.{last_day};
-ghost use Rattle.table.specs.Sound.{Sound};
+ghost use Rattle.table.specs.Sound.{Begun, Sound};
 ghost use Rattle.margin.specs.BuyIns.{PurchaseFound, Settles, barred_at, bought_in, buy_in_causes, cost_at, passes, settled};
 
 use crate::execution::Execution;
@@ -96,6 +96,7 @@ pub fn settle(table: &mut Table, account: u8, purchase: Purchase, yields: u64) -
     ensures value { result ≡ settled purchase.account.balance purchase.cost yields }
     ensures done { table.new ≡ bought_in account purchase.cost yields table.old }
     ensures sound { Sound table.new }
+    ensures begun { Begun table.old → Begun table.new }
 {
     let balance = after(purchase.account.balance, purchase.cost, yields);
     bar(&mut table.accounts[account as usize], balance);

@@ -5,7 +5,7 @@ ghost use Rattle.shelf.specs.Limits.{top_cover, shelf_places};
 ghost use Rattle.table.specs.declared.hour.Hour.TheVariants.{Morning};
 ghost use Rattle.table.specs.Act.{Acted, Answered, Found, first as first-cause};
 ghost use Rattle.table.specs.Tables.{account_at, elevens};
-ghost use Rattle.table.specs.Sound.{Sound};
+ghost use Rattle.table.specs.Sound.{Begun, Sound};
 ghost use Rattle.margin.specs.Margins.{Lacks, covered, short, target_on};
 ghost use Rattle.margin.specs.Notices.{Callable, Examinable, called, examine_causes, examined, short_among, ten_causes, wait_act};
 
@@ -39,6 +39,7 @@ pub fn call_short(table: &mut Table, covers: &[u64]) -> u32
     ensures value { result ≡ count_ones (short_among table.old (λ k. slice_index covers.now k)) }
     ensures done { table.new ≡ called table.old (short_among table.old (λ k. slice_index covers.now k)) }
     ensures sound { Sound table.new }
+    ensures begun { Begun table.old → Begun table.new }
 {
     let word = short_word(table, covers);
     table.hour = Hour::Calling;
@@ -113,6 +114,7 @@ pub fn examine(table: &mut Table, place: u8, a: Account, pledged: u64) -> Option
     ensures value { Lacks (target_on table.old (Some a)) (covered (Some a) pledged) result }
     ensures done { table.new ≡ examined table.old place result }
     ensures sound { Sound table.new }
+    ensures begun { Begun table.old → Begun table.new }
 {
     let lack = lacking(table, a, pledged);
     match lack {
@@ -139,6 +141,7 @@ pub fn wait(table: &mut Table, account: u8) -> Result<(), Refusal>
     requires known { account < account_places }
     ensures acted { Acted (wait_act account) table.old table.new result }
     ensures sound { Sound table.new }
+    ensures begun { Begun table.old → Begun table.new }
 {
     if !is_set(table.slips, account) {
         return Err(Refusal::NoNotice);

@@ -2,7 +2,7 @@
 ghost use Rattle.std.specs.Prelude.{◌≡◌, IfOk, None};
 ghost use Rattle.table.specs.Act.{Found, first as first-cause};
 ghost use Rattle.table.specs.Tables.{account_at, with_account};
-ghost use Rattle.table.specs.Sound.{Sound};
+ghost use Rattle.table.specs.Sound.{Begun, Sound};
 ghost use Rattle.margin.specs.Refunds.{Refundable, cents_of, refund_causes};
 
 use lending::Account;
@@ -42,6 +42,7 @@ pub fn vacate(table: &mut Table, account: u8, a: Account) -> u64
     ensures value { result ≡ cents_of a.balance }
     ensures done { table.new ≡ with_account table.old account None }
     ensures sound { Sound table.new }
+    ensures begun { Begun table.old → Begun table.new }
 {
     table.accounts[account as usize] = None;
     a.balance as u64
