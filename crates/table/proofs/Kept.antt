@@ -1,5 +1,5 @@
 -- What keeps a table sound.
-use Rattle.std.proofs.Common.{◌≡◌, ℕ, zero, suc, ◌+◌, ◌-◌, ◌*◌, ◌<◌, ◌≤◌, Bool, true, false, cond, List, length, get_or, set, replicate, ℤ, pos, neg_ℤ, ◌≤ℤ◌, Some, None, Option, sym, refl, ap, ◌∙◌, subst, mul-le-mul_right, arith, length-set}
+use Rattle.std.proofs.Common.{◌≡◌, ℕ, zero, suc, ◌+◌, ◌-◌, ◌<◌, ◌≤◌, Bool, true, false, cond, List, get_or, replicate, is_some, ℤ, pos, ◌≤ℤ◌, Some, None, Option, sym, refl, ap, ◌∙◌, subst, arith, length-set}
 use Rattle.std.specs.Option.{option_map}
 use Rattle.std.proofs.lemmas.Int.{ints}
 use Rattle.std.proofs.lemmas.Bool.{true≢false}
@@ -9,17 +9,18 @@ use Rattle.lending.specs.declared.offer.Offer.{Offer}
 use Rattle.lending.specs.Measures.{top_units}
 use Rattle.lending.specs.Eleven.{accounts_after, offers_after}
 use Rattle.lending.proofs.After.{accounts_long, offers_long, accounts_taken, accounts_sound, offers_sound}
-use Rattle.lending.specs.Sound.{SoundLoan, SoundBalance, SoundAccount, SoundAccounts, SoundTerms, SoundEarnings, SoundOffer, SoundOffers, securities, top_rate, top_commission, top_balance, top_fee, top_cost, lowest}
+use Rattle.lending.specs.Sound.{SoundLoan, SoundBalance, SoundAccount, SoundAccounts, SoundTerms, SoundEarnings, SoundOffer, SoundOffers, securities, top_rate, top_commission, top_balance}
 use Rattle.table.specs.declared.hour.Hour.{Hour}
 use Rattle.table.specs.declared.hour.Hour.TheVariants as hour
 use Rattle.table.specs.declared.table.Table.{Table}
+use Rattle.table.specs.Act.{first}
 use Rattle.table.specs.Tables.{account_at, offer_at, elevens, blank, calling, afternoon, taken, with_account, with_offer, blank_table}
 use Rattle.table.specs.Limits.{last_day}
-use Rattle.table.specs.Sound.{Sound, SoundOfferSlot}
+use Rattle.table.specs.Sound.{Sound, Begun, SoundOfferSlot}
 use Rattle.table.specs.Days.{all_priced, open_act}
 use Rattle.table.specs.Accounts.{enrolled, with_owed, with_applied, with_balance}
 use Rattle.table.specs.Offers.{offered}
-use Rattle.table.specs.Elevens.{struck, paid_out}
+use Rattle.table.specs.Elevens.{eleven_causes, struck, paid_out}
 use Rattle.table.proofs.Prices.{priced_at}
 use Rattle.table.proofs.Slots.{each_put, still_taken, of_some, of_none}
 
@@ -33,7 +34,6 @@ module _ (t : Table) (s : Sound t) where
       (taken (account_at t i) ≡ true → taken o ≡ true) → Sound (with_account t i o)
   account_kept i o h still = record {
     dated = s.dated;
-    begun = s.begun;
     sized = (simp length-set s.sized.0, s.sized.1);
     priced = s.priced;
     loans = each_put SoundLoan t.accounts i o (λ a e. (h a e).0) s.loans;
@@ -55,7 +55,6 @@ module _ (t : Table) (s : Sound t) where
   pub offer_kept : (i : ℕ) (o : Option Offer) → ((x : Offer) → o ≡ Some x → SoundOffer (elevens t) x) → Sound (with_offer t i o)
   offer_kept i o h = record {
     dated = s.dated;
-    begun = s.begun;
     sized = (s.sized.0, simp length-set s.sized.1);
     priced = s.priced;
     loans = s.loans;
@@ -125,7 +124,6 @@ opened_kept t s prices p d n =
     let later : elevens t ≤ t.day + 1 - 1 = omega (arith, elevens_most t) in
     record {
       dated = omega arith;
-      begun = λ _. omega arith;
       sized = s.sized;
       priced = priced_at prices p;
       loans = s.loans;
@@ -155,7 +153,6 @@ none_priced (suc n) (suc k) = none_priced n k
 pub blank_sound : Sound blank_table
 blank_sound = record {
   dated = omega arith;
-  begun = λ h. absurd (true≢false h);
   sized = (refl, refl);
   priced = λ k. omega (arith, none_priced 8 k);
   loans = λ k a e. none_at SoundLoan 64 k a e;
@@ -167,10 +164,19 @@ blank_sound = record {
   idle = λ _. refl;
 }
 
+pub blank_begun : Begun blank_table
+blank_begun h = absurd (true≢false h)
+
+-- a place is taken if it was, where something stands in it as before
+taken_mapped : {X : Type 0} (o p : Option X) → is_some o ≡ is_some p → taken p ≡ true → taken o ≡ true
+taken_mapped None None e h = h
+taken_mapped None (Some x) e h = e
+taken_mapped (Some x) p e h = refl
+
 -- eleven strikes
-pub struck_kept : (t : Table) → Sound t → t.hour ≡ hour.Calling → t.notices ≡ 0 → Sound (struck t)
-struck_kept t s calls none =
-    let begun : 1 ≤ t.day = s.begun (ap blank calls) in
+pub struck_kept : (t : Table) → Sound t → Begun t → t.hour ≡ hour.Calling → t.notices ≡ 0 → Sound (struck t)
+struck_kept t s b calls none =
+    let begun : 1 ≤ t.day = b (ap blank calls) in
     let so_far : elevens t ≡ t.day - 1 = ap (λ (h : Hour). cond (afternoon h) t.day (t.day - 1)) calls in
     let one_more : elevens t + 1 ≡ t.day = omega arith in
     let loans : SoundAccounts (elevens t) t.accounts = λ k a e. (s.loans k a e, s.balances k a e) in
@@ -179,7 +185,6 @@ struck_kept t s calls none =
     let lent = subst (λ (n : ℕ). SoundOffers n (offers_after t.accounts t.offers)) one_more (offers_sound t.accounts t.offers (elevens t) lenders) in
     record {
       dated = s.dated;
-      begun = λ _. begun;
       sized = (accounts_long t.accounts t.offers ∙ s.sized.0, offers_long t.accounts t.offers ∙ s.sized.1);
       priced = s.priced;
       loans = λ k a e. (charged k a e).0;
@@ -187,9 +192,13 @@ struck_kept t s calls none =
       terms = λ k o e. (lent k o e).0;
       earnings = λ k o e. (lent k o e).1;
       held = s.held;
-      noticed = λ n b. accounts_taken t.accounts t.offers n ∙ s.noticed n b;
+      noticed = λ n m. taken_mapped _ _ (accounts_taken t.accounts t.offers n) (s.noticed n m);
       idle = λ _. none;
     }
+
+-- in the calling hour with no notice open eleven is not refused
+pub strikes : (t : Table) → t.hour ≡ hour.Calling → t.notices ≡ 0 → first (eleven_causes t) ≡ None
+strikes t calls none = rw (calls, none)
 
 -- an afternoon's table with the accounts and offers after eleven
 pub struck_is : (t : Table) (xs : List (Option Account)) (os : List (Option Offer)) → xs ≡ accounts_after t.accounts t.offers → os ≡ offers_after t.accounts t.offers →

@@ -1,5 +1,5 @@
 -- A write to one place of a list of places.
-use Rattle.std.proofs.Common.{◌≡◌, ℕ, zero, suc, true, List, [], ◌∷◌, get_or, set, Some, None, Option, refl, subst, arith}
+use Rattle.std.proofs.Common.{◌≡◌, ℕ, zero, suc, true, List, [], ◌∷◌, get_or, set, Some, None, Option, subst, arith}
 use Rattle.table.specs.Tables.{taken}
 
 -- what holds of all that stands in a list still holds after a write of which it holds

@@ -1,10 +1,9 @@
 -- How many places there are, and how large a number may be.
 use Rattle.std.specs.Prelude.{ℕ}
-use Rattle.lending.specs.Sound.{top_elevens}
 
--- the last day; there is one eleven on each
+-- the last day
 abbrev pub last_day : ℕ
-last_day = top_elevens
+last_day = 60000
 
 -- firms are numbered 1 up to this
 abbrev pub top_firm : ℕ

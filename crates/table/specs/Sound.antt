@@ -1,5 +1,5 @@
 -- What always holds of a book's table.
-use Rattle.std.specs.Prelude.{◌≡◌, ℕ, ◌≤◌, Bool, true, false, length, Some, None, Option}
+use Rattle.std.specs.Prelude.{◌≡◌, ℕ, ◌≤◌, true, false, length, Some, None, Option}
 use Rattle.bits.specs.Bit.{bit}
 use Rattle.lending.specs.declared.account.Account.{Account}
 use Rattle.lending.specs.declared.offer.Offer.{Offer}
@@ -48,7 +48,6 @@ Idle t = calling t.hour ≡ false → t.notices ≡ 0
 
 pub record Sound (t : Table) : Type 0 where
   pub dated : Dated t
-  pub begun : Begun t
   pub sized : Sized t
   pub priced : PricesBounded t
   pub loans : Loans t

@@ -1,5 +1,5 @@
 -- Reading and changing a table.
-use Rattle.std.specs.Prelude.{ℕ, ◌-◌, Bool, true, false, cond, not, List, replicate, is_some, None, Option, slice_index, slice_index_or, slice_set}
+use Rattle.std.specs.Prelude.{ℕ, ◌-◌, Bool, true, false, cond, replicate, Some, None, Option, slice_index, slice_index_or, slice_set}
 use Rattle.lending.specs.declared.account.Account.{Account}
 use Rattle.lending.specs.declared.offer.Offer.{Offer}
 use Rattle.lending.specs.Sound.{securities, account_places, offer_places}
@@ -52,7 +52,8 @@ with_offer t place o = record { day = t.day; hour = t.hour; prices = t.prices; a
 
 -- whether a place is taken
 abbrev pub taken : {X : Type 0} → Option X → Bool
-taken o = is_some o
+taken None = false
+taken (Some x) = true
 
 -- a new book's table: the blank hour of day 0, with every place empty
 abbrev pub blank_table : Table

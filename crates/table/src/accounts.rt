@@ -5,7 +5,7 @@ ghost use Rattle.lending.specs.Sound.{top_balance, lowest};
 ghost use Rattle.table.specs.Act.{Acted};
 ghost use Rattle.table.specs.Limits.{top_deposit, last_day};
 ghost use Rattle.table.specs.Accounts.{with_balance, with_applied, with_owed, enrol_act, apply_act, return_act, deposit_act};
-ghost use Rattle.table.specs.Sound.{Sound};
+ghost use Rattle.table.specs.Sound.{Sound, Begun};
 
 use super::hour::Hour;
 use super::limits::{ACCOUNT_PLACES, SECURITIES, TOP_BALANCE, TOP_DEPOSIT, TOP_FIRM, TOP_UNITS};
@@ -20,6 +20,7 @@ impl Table {
         requires { Sound self.old }
         ensures acted { Acted (enrol_act account firm security) self.old self.new result }
         ensures sound { Sound self.new }
+        ensures begun { Begun self.old → Begun self.new }
     {
         if account >= ACCOUNT_PLACES || security >= SECURITIES {
             return Err(Refusal::NoSuchPlace);
@@ -49,6 +50,7 @@ impl Table {
         requires { Sound self.old }
         ensures acted { Acted (apply_act account units) self.old self.new result }
         ensures sound { Sound self.new }
+        ensures begun { Begun self.old → Begun self.new }
     {
         if account >= ACCOUNT_PLACES {
             return Err(Refusal::NoSuchPlace);
@@ -78,6 +80,7 @@ impl Table {
         requires { Sound self.old }
         ensures acted { Acted (return_act account units) self.old self.new result }
         ensures sound { Sound self.new }
+        ensures begun { Begun self.old → Begun self.new }
     {
         if account >= ACCOUNT_PLACES {
             return Err(Refusal::NoSuchPlace);
@@ -104,6 +107,7 @@ impl Table {
         requires { Sound self.old }
         ensures acted { Acted (deposit_act account cents) self.old self.new result }
         ensures sound { Sound self.new }
+        ensures begun { Begun self.old → Begun self.new }
     {
         if account >= ACCOUNT_PLACES {
             return Err(Refusal::NoSuchPlace);

@@ -2,7 +2,7 @@
 ghost use Rattle.std.specs.Prelude.{◌≡◌};
 ghost use Rattle.table.specs.Act.{Acted};
 ghost use Rattle.table.specs.Days.{all_priced, open_act};
-ghost use Rattle.table.specs.Sound.{Sound};
+ghost use Rattle.table.specs.Sound.{Sound, Begun};
 
 use super::hour::Hour;
 use super::limits::{LAST_DAY, TOP_PRICE};
@@ -15,6 +15,7 @@ impl Table {
         requires { Sound self.old }
         ensures acted { Acted (open_act prices) self.old self.new result }
         ensures sound { Sound self.new }
+        ensures begun { Begun self.old → Begun self.new }
     {
         if !all_priced(&prices) {
             return Err(Refusal::OutOfRange);

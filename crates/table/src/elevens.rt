@@ -3,7 +3,7 @@ ghost use Rattle.std.specs.Prelude.{◌≡◌};
 ghost use Rattle.std.specs.Option.{option_map};
 ghost use Rattle.table.specs.Act.{Acted};
 ghost use Rattle.table.specs.Elevens.{eleven_act, paid_out, pay_out_act};
-ghost use Rattle.table.specs.Sound.{Sound};
+ghost use Rattle.table.specs.Sound.{Sound, Begun};
 
 use super::hour::Hour;
 use super::limits::OFFER_PLACES;
@@ -14,9 +14,11 @@ use lending::{Offer, eleven};
 impl Table {
     /// Lends, charges and begins the afternoon, and answers all fees and all voucher units.
     pub fn eleven(&mut self) -> Result<(u64, u64), Refusal>
-        requires { Sound self.old }
+        requires sound { Sound self.old }
+        requires begun { Begun self.old }
         ensures acted { Acted eleven_act self.old self.new result }
         ensures sound { Sound self.new }
+        ensures begun { Begun self.new }
     {
         let Hour::Calling = self.hour else {
             return Err(Refusal::WrongHour);
@@ -34,6 +36,7 @@ impl Table {
         requires { Sound self.old }
         ensures acted { Acted (pay_out_act place) self.old self.new result }
         ensures sound { Sound self.new }
+        ensures begun { Begun self.old → Begun self.new }
     {
         if place >= OFFER_PLACES {
             return Err(Refusal::NoSuchPlace);

@@ -3,9 +3,9 @@
 /// Account places, numbered from 0.
 pub const ACCOUNT_PLACES: u8 = 64;
 /// Offer places, numbered from 0.
-pub const OFFER_PLACES: u16 = lending::OFFER_PLACES as u16;
+pub const OFFER_PLACES: u16 = 256;
 /// Securities, numbered from 0.
-pub const SECURITIES: u8 = lending::SECURITIES as u8;
+pub const SECURITIES: u8 = 8;
 /// The last day.
 pub(crate) const LAST_DAY: u16 = 60_000;
 /// The highest price, in cents for each share.

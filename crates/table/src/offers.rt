@@ -2,7 +2,7 @@
 ghost use Rattle.std.specs.Prelude.{◌≡◌};
 ghost use Rattle.table.specs.Act.{Acted};
 ghost use Rattle.table.specs.Offers.{offer_act, withdraw_act};
-ghost use Rattle.table.specs.Sound.{Sound};
+ghost use Rattle.table.specs.Sound.{Sound, Begun};
 
 use super::hour::Hour;
 use super::limits::{OFFER_PLACES, RATE_PER_CENT, SECURITIES, TOP_COMMISSION, TOP_RATE, TOP_UNITS};
@@ -23,6 +23,7 @@ impl Table {
         requires { Sound self.old }
         ensures acted { Acted (offer_act place security units rate commission) self.old self.new result }
         ensures sound { Sound self.new }
+        ensures begun { Begun self.old → Begun self.new }
     {
         if place >= OFFER_PLACES || security >= SECURITIES {
             return Err(Refusal::NoSuchPlace);
@@ -55,6 +56,7 @@ impl Table {
         requires { Sound self.old }
         ensures acted { Acted (withdraw_act place) self.old self.new result }
         ensures sound { Sound self.new }
+        ensures begun { Begun self.old → Begun self.new }
     {
         if place >= OFFER_PLACES {
             return Err(Refusal::NoSuchPlace);

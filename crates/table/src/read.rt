@@ -3,7 +3,7 @@ ghost use Rattle.std.specs.Prelude.{◌≡◌, ◌<◌, ◌≤◌};
 ghost use Rattle.lending.specs.Measures.{top_price};
 ghost use Rattle.lending.specs.Sound.{securities, account_places, offer_places};
 ghost use Rattle.table.specs.Tables.{account_at, offer_at, price_at, elevens, blank_table};
-ghost use Rattle.table.specs.Sound.{Sound, Dated, SoundSlot, SoundOfferSlot};
+ghost use Rattle.table.specs.Sound.{Sound, Begun, Dated, SoundSlot, SoundOfferSlot};
 
 use super::hour::Hour;
 use super::table::Table;
@@ -14,6 +14,7 @@ impl Table {
     pub fn blank() -> Table
         ensures value { result ≡ blank_table }
         ensures sound { Sound result }
+        ensures begun { Begun result }
     {
         Table {
             day: 0,

@@ -1,4 +1,4 @@
-use Rattle.std.proofs.Common.{◌≡◌, sym, ap, arith, rules}
+use Rattle.std.proofs.Common.{sym, ap, arith, rules}
 use Rattle.table.specs.Tables.{elevens}
 use Rattle.table.specs.Accounts.{applied_of, apply_act}
 use Rattle.table.proofs.Kept.{kept_as, changed_kept, applied_sound}
@@ -13,4 +13,5 @@ returns c =
     record {
       acted = search rules;
       sound = kept_as ((apply_act c.args.account c.args.units).done t) _ (search rules) (changed_kept t c.requires c.args.account a _ is (applied_sound (elevens t) a _ c.in-Some.ensures.sound c.if-a.false (omega (arith, had))));
+      begun = λ h. h;
     }

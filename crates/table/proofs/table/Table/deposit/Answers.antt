@@ -1,4 +1,4 @@
-use Rattle.std.proofs.Common.{◌≡◌, sym, ap, arith, rules}
+use Rattle.std.proofs.Common.{sym, ap, arith, rules}
 use Rattle.std.proofs.lemmas.Int.{ints}
 use Rattle.table.specs.Tables.{elevens}
 use Rattle.table.specs.Accounts.{balance_of, deposit_act}
@@ -14,4 +14,5 @@ returns c =
     record {
       acted = search rules;
       sound = kept_as ((deposit_act c.args.account c.args.cents).done t) _ (search rules) (changed_kept t c.requires c.args.account a _ is (raised_sound (elevens t) a _ c.in-Some.ensures.sound (omega (arith, ints, had)) (omega (arith, ints, had, c.raised-balance.ensures))));
+      begun = λ h. h;
     }

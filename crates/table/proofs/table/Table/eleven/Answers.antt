@@ -1,16 +1,16 @@
-use Rattle.std.proofs.Common.{◌≡◌, ℕ, ◌≤◌, ap, ◌∙◌, arith, rules}
+use Rattle.std.proofs.Common.{ℕ, ◌≤◌, ap, ◌∙◌, arith}
 use Rattle.lending.specs.Eleven.{all_fees}
-use Rattle.lending.specs.Sound.{SoundAccounts, SoundOffers, top_elevens}
+use Rattle.lending.specs.Sound.{top_elevens}
 use Rattle.lending.proofs.After.{accounts_later, offers_later}
 use Rattle.table.specs.Elevens.{struck}
-use Rattle.table.specs.Tables.{elevens}
-use Rattle.table.proofs.Kept.{kept_as, elevens_most, struck_is, struck_kept}
+use Rattle.table.specs.Tables.{elevens, blank}
+use Rattle.table.proofs.Kept.{kept_as, elevens_most, strikes, struck_is, struck_kept}
 use Rattle.table.proofs.table.Table.eleven.Goals as goal
 
 pub eleven-answer-requires : goal.eleven-answer-requires
 eleven-answer-requires c =
     let t = c.args.self.now in
-    let s = c.requires in
+    let s = c.requires.sound in
     let most : elevens t ≤ top_elevens = omega (arith, elevens_most t, s.dated) in
     record {
       accounts = s.sized.0;
@@ -26,9 +26,10 @@ returns c =
     let after = struck_is t _ _ told.accounts told.offers in
     record {
       acted = (
-        search rules,
+        strikes t c.in-Calling.is (omega arith),
         ap (λ (x : ℕ). (x, c.eleven-answer.result.1)) told.fees ∙ ap (λ (y : ℕ). (all_fees t.accounts t.offers, y)) told.vouchers,
         after,
       );
-      sound = kept_as (struck t) _ after (struck_kept t c.requires c.in-Calling.is (omega arith));
+      sound = kept_as (struck t) _ after (struck_kept t c.requires.sound c.requires.begun c.in-Calling.is (omega arith));
+      begun = λ _. c.requires.begun (ap blank c.in-Calling.is);
     }

@@ -1,4 +1,4 @@
-use Rattle.std.proofs.Common.{◌<◌, refl, arith, rules}
+use Rattle.std.proofs.Common.{refl, arith, rules}
 use Rattle.lending.specs.Sound.{SoundAccount}
 use Rattle.table.specs.Tables.{elevens}
 use Rattle.table.specs.Accounts.{enrolled}
@@ -12,4 +12,5 @@ returns c =
     record {
       acted = search rules;
       sound = account_kept t c.requires c.args.account _ (of_some (SoundAccount (elevens t)) (enrolled c.args.firm c.args.security) (enrolled_sound (elevens t) c.args.firm c.args.security (omega arith))) (λ _. refl);
+      begun = λ h. h;
     }

@@ -12,4 +12,5 @@ returns c =
     record {
       acted = search rules;
       sound = offer_kept t c.requires c.args.place _ (of_some (SoundOffer (elevens t)) (offered c.args.security c.args.units c.args.rate c.args.commission) (offered_sound (elevens t) c.args.security c.args.units c.args.rate c.args.commission (omega arith) (omega arith) (omega arith) (omega arith)));
+      begun = λ h. h;
     }

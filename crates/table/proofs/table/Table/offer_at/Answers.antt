@@ -1,4 +1,4 @@
-use Rattle.std.proofs.Common.{refl, rules}
+use Rattle.std.proofs.Common.{rules}
 use Rattle.table.proofs.Kept.{offer_slot}
 use Rattle.table.proofs.table.Table.offer_at.Goals as goal
 

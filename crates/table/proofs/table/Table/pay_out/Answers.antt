@@ -12,4 +12,5 @@ returns c =
     record {
       acted = search rules;
       sound = kept_as ((pay_out_act c.args.place).done t) _ (search rules) (offer_changed t c.requires c.args.place o _ is (paid_out_sound (elevens t) o c.in-Some.ensures.sound));
+      begun = λ h. h;
     }
