@@ -1,5 +1,5 @@
 -- A file's first byte, and one record more handed to a sink.
-use Rattle.std.proofs.Common.{◌≡◌, ℕ, ◌+◌, ◌<◌, ◌≤◌, List, [], ◌∷◌, length, Some, None, Ok, Err, Option, sym, refl, ap, ◌∙◌, arith}
+use Rattle.std.proofs.Common.{◌≡◌, ℕ, ◌≤◌, List, [], ◌∷◌, length, Some, None, Ok, Err, Option, sym, refl, arith}
 use Rattle.cursor.specs.Bytes.{byte}
 use Rattle.dayfile.specs.declared.fault.FileCause.{FileCause}
 use Rattle.dayfile.specs.declared.fault.FileCause.TheVariants as file

@@ -1,7 +1,7 @@
 -- A file has one meaning only.
-use Rattle.std.proofs.Common.{◌≡◌, ℕ, ◌<◌, ◌≤◌, List, [], ◌∷◌, sym, refl, ap, ◌∙◌, arith}
-use Rattle.dayfile.specs.Outcome.{Reading, read_record}
-use Rattle.dayfile.specs.File.{Ending, Holds, at_end, at_fault, at_record, Means, is_too_long, has_no_version, has_version, OneMeaning}
+use Rattle.std.proofs.Common.{◌≡◌, ℕ, List, ◌∷◌, refl, ap, ◌∙◌, arith}
+use Rattle.dayfile.specs.Outcome.{Reading}
+use Rattle.dayfile.specs.File.{Ending, Holds, at_end, at_fault, at_record, is_too_long, has_no_version, has_version, OneMeaning}
 
 one_rest : (bs : List ℕ) {p : ℕ} {rs ss : List Reading} {e f : Ending} → Holds bs p rs e → Holds bs p ss f → (rs ≡ ss) × (e ≡ f)
 one_rest bs (at_end p x) (at_end _ y) = (refl, refl)

@@ -1,7 +1,6 @@
 -- What every fault tells: its layer, its number and its place, and what was expected there.
 use Rattle.std.specs.Prelude.{ℕ, List, codes}
 use Rattle.dayfile.specs.Limits.{most_bytes}
-use Rattle.dayfile.specs.declared.fault.Layer.{Layer}
 use Rattle.dayfile.specs.declared.fault.Layer.TheVariants as layer
 use Rattle.dayfile.specs.declared.fault.Told.{Told}
 use Rattle.dayfile.specs.declared.fault.FileCause.{FileCause}

@@ -1,5 +1,5 @@
 -- What a whole file means: its records, in order, and then its end or its first fault.
-use Rattle.std.specs.Prelude.{◌≡◌, ℕ, ◌+◌, ◌<◌, ◌≤◌, List, [], ◌∷◌, length, Ok, Err, Result, ◌≢◌}
+use Rattle.std.specs.Prelude.{◌≡◌, ℕ, ◌<◌, ◌≤◌, List, [], ◌∷◌, length, Ok, Err, Result, ◌≢◌}
 use Rattle.cursor.specs.Bytes.{byte}
 use Rattle.dayfile.specs.declared.fault.Told.{Told}
 use Rattle.dayfile.specs.declared.fault.FileCause.{FileCause}
@@ -8,7 +8,7 @@ use Rattle.dayfile.specs.declared.fault.Fault.{Fault}
 use Rattle.dayfile.specs.declared.reader.Reader.{Reader}
 use Rattle.dayfile.specs.Limits.{version, most_bytes}
 use Rattle.dayfile.specs.Faults.{tells, no_version, too_long}
-use Rattle.dayfile.specs.Outcome.{Outcome, ends, faults, reads, Reading, read_record}
+use Rattle.dayfile.specs.Outcome.{ends, faults, reads, Reading, read_record}
 
 -- how reading comes to an end
 pub data Ending : Type 0 where

@@ -1,41 +1,40 @@
-use Rattle.std.proofs.Common.{◌≡◌, ◌≤◌, [], length, refl, ap, ◌∙◌, arith}
+use Rattle.std.proofs.Common.{[], length, ap, ◌∙◌, arith}
 use Rattle.std.proofs.lemmas.Result.{err_from_is_err_and}
 use Rattle.dayfile.specs.File.{none}
-use Rattle.dayfile.specs.Seen.{Stands}
 use Rattle.dayfile.proofs.Files.{not_empty, begun, past_record, on_end, on_fault, on_record}
 use Rattle.dayfile.proofs.Meaning.{one_meaning}
 use Rattle.dayfile.proofs.file.read_file.Goals as goal
 
-pub returns-in-err-reader : goal.returns-in-err-reader
-returns-in-err-reader g c =
-    let q = err_from_is_err_and c.from-residual.result c.from-residual.ensures.1 in
-    record { handed = rw (q.1, q.2) ([], c.in-err-reader.ensures, none _); only = one_meaning c.args.file.now }
+pub returns-in_err-reader : goal.returns-in_err-reader
+returns-in_err-reader g c =
+    let q = err_from_is_err_and c.from_residual.result c.from_residual.ensures.1 in
+    record { handed = rw (q.1, q.2) ([], c.in_err-reader.ensures, none _); only = one_meaning c.args.file.now }
 
 pub loop-record-init : goal.loop-record-init
 loop-record-init g c =
-    let o = c.in-ok-reader.ensures in
+    let o = c.in_ok-reader.ensures in
     (o.2, omega (arith, o.3, not_empty c.args.file.now o.1), λ e t h. rw o.3 at h)
 
-pub returns-in-err-record : goal.returns-in-err-record
-returns-in-err-record g c =
-    let q = err_from_is_err_and c.from-residual-in-err-record.result c.from-residual-in-err-record.ensures.1 in
-    let o = c.in-ok-reader.ensures in
-    record { handed = rw (q.1, q.2) (begun g.S.Sink.takes c.args.file.now c.args.sink.now c.loop-record.sink _ o.0 o.1 (c.loop-record.invariant.2 _ _ (on_fault g.S.Sink.takes c.args.file.now c.loop-record.reader.file.now c.loop-record.reader.at c.next-record.new.self.at c.loop-record.sink c.loop-record.invariant.0 c.in-err-record.field-0.0 c.in-err-record.ensures.reads))); only = one_meaning c.args.file.now }
+pub returns-in_err-record : goal.returns-in_err-record
+returns-in_err-record g c =
+    let q = err_from_is_err_and c.from_residual-in_err-record.result c.from_residual-in_err-record.ensures.1 in
+    let o = c.in_ok-reader.ensures in
+    record { handed = rw (q.1, q.2) (begun g.S.Sink.takes c.args.file.now c.args.sink.now c.loop-record.sink _ o.0 o.1 (c.loop-record.invariant.2 _ _ (on_fault g.S.Sink.takes c.args.file.now c.loop-record.reader.file.now c.loop-record.reader.at c.next_record.new.self.at c.loop-record.sink c.loop-record.invariant.0 c.in_err-record.field-0.0 c.in_err-record.ensures.reads))); only = one_meaning c.args.file.now }
 
 pub loop-record-smaller : goal.loop-record-smaller
 loop-record-smaller g c =
-    let h = past_record _ c.in-Some.record c.in-Some.is c.loop-record.reader c.next-record.new.self c.in-ok-record.ensures.stands in
+    let h = past_record _ c.in-Some.record c.in-Some.is c.loop-record.reader c.next_record.new.self c.in_ok-record.ensures.stands in
     omega (arith, h.1, h.2, ap length c.loop-record.invariant.0)
 
 pub loop-record-preserved : goal.loop-record-preserved
 loop-record-preserved g c =
-    let h = past_record _ c.in-Some.record c.in-Some.is c.loop-record.reader c.next-record.new.self c.in-ok-record.ensures.stands in (
+    let h = past_record _ c.in-Some.record c.in-Some.is c.loop-record.reader c.next_record.new.self c.in_ok-record.ensures.stands in (
       h.0 ∙ c.loop-record.invariant.0,
       omega (arith, h.2, ap length c.loop-record.invariant.0),
-      λ e t more. c.loop-record.invariant.2 e t (on_record g.S.Sink.takes c.args.file.now c.loop-record.reader.file.now c.loop-record.reader.at c.next-record.new.self.at c.loop-record.sink c.loop-record.invariant.0 c.in-ok-record.field-0 c.in-Some.record c.in-Some.is c.in-ok-record.ensures.reads c.take.new.self c.take.ensures e t more),
+      λ e t more. c.loop-record.invariant.2 e t (on_record g.S.Sink.takes c.args.file.now c.loop-record.reader.file.now c.loop-record.reader.at c.next_record.new.self.at c.loop-record.sink c.loop-record.invariant.0 c.in_ok-record.field-0 c.in-Some.record c.in-Some.is c.in_ok-record.ensures.reads c.take.new.self c.take.ensures e t more),
     )
 
 pub returns : goal.returns
 returns g c =
-    let o = c.in-ok-reader.ensures in
-    record { handed = begun g.S.Sink.takes c.args.file.now c.args.sink.now c.loop-record.sink _ o.0 o.1 (c.loop-record.invariant.2 _ _ (on_end g.S.Sink.takes c.args.file.now c.loop-record.reader.file.now c.loop-record.reader.at c.next-record.new.self.at c.loop-record.sink c.loop-record.invariant.0 c.in-ok-record.field-0 c.in-default.is c.in-ok-record.ensures.reads)); only = one_meaning c.args.file.now }
+    let o = c.in_ok-reader.ensures in
+    record { handed = begun g.S.Sink.takes c.args.file.now c.args.sink.now c.loop-record.sink _ o.0 o.1 (c.loop-record.invariant.2 _ _ (on_end g.S.Sink.takes c.args.file.now c.loop-record.reader.file.now c.loop-record.reader.at c.next_record.new.self.at c.loop-record.sink c.loop-record.invariant.0 c.in_ok-record.field-0 c.in_default.is c.in_ok-record.ensures.reads)); only = one_meaning c.args.file.now }
