@@ -24,4 +24,5 @@ returns c =
       value = told;
       done = done;
       sound = kept_as (bought_in k p.cost c.args.yields t) _ done (bought_in_kept t c.requires.sound k p c.args.yields c.requires.settles);
+      begun = λ b. b;
     }

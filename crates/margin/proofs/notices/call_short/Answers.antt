@@ -1,5 +1,6 @@
 use Rattle.std.proofs.Common.{ℕ, get_or, ap, ◌∙◌}
 use lib.Count.{ones}
+use Rattle.table.specs.Tables.{blank}
 use Rattle.table.proofs.Kept.{kept_as}
 use Rattle.margin.specs.Notices.{called, short_among}
 use Rattle.margin.proofs.Kept.{called_kept}
@@ -14,4 +15,5 @@ returns c =
       value = c.ones.ensures ∙ ap ones c.short_word-word.ensures;
       done = after;
       sound = kept_as (called t (short_among t covers)) _ after (called_kept t c.requires.sound covers c.requires.hour);
+      begun = λ b _. b (ap blank c.requires.hour);
     }

@@ -13,6 +13,7 @@ returns-in-Some c =
       value = c.lacking-lack.ensures;
       done = after ∙ ap (examined t c.args.place) (sym c.in-Some.is);
       sound = kept_as (with_slips t (with_bit t.slips c.args.place)) _ after (out_kept t c.requires.sound c.args.place c.requires.known.noticed);
+      begun = λ b. b;
     }
 
 pub returns-in-None : goal.returns-in-None
@@ -23,4 +24,5 @@ returns-in-None c =
       value = c.lacking-lack.ensures;
       done = after ∙ ap (examined t c.args.place) (sym c.in-None.is);
       sound = kept_as (with_notices t (without_bit t.notices c.args.place)) _ after (closed_kept t c.requires.sound c.args.place c.requires.known.free);
+      begun = λ b. b;
     }

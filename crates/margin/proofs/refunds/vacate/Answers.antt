@@ -10,4 +10,5 @@ returns c =
       value = search rules;
       done = refl;
       sound = vacated_kept t c.requires.sound c.args.account (ap calling c.requires.known.in_afternoon);
+      begun = λ b. b;
     }
