@@ -95,7 +95,7 @@ fn take_in<P: Pledge>(
 ) -> Result<Account, Refusal>
     requires sound { Sound table.now }
     requires places { firsts ≡ shelf_places → seconds ≡ shelf_places → length shelf.old ≡ shelf_places }
-    ensures taken { TakenIn (first-cause (pledge_causes table.now firsts seconds account place (is_some (at shelf.old place)) (numbers.expiry pledge))) (account_at table.now account) shelf.old (set shelf.old place (Some (record { account = account; pledge = pledge }))) shelf.new result }
+    ensures taken { TakenIn (first-cause (pledge_causes table.now firsts seconds account place (is_some (at shelf.old place)) (P.numbers.expiry pledge))) (account_at table.now account) shelf.old (set shelf.old place (Some (record { account = account; pledge = pledge }))) shelf.new result }
     ensures known { IfOk result (λ a. Pledgeable table.now firsts seconds place a) }
 {
     let a = to_pledge(

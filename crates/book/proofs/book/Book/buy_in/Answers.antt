@@ -27,11 +27,6 @@ settle-balance-requires g c =
       };
     }
 
-pub invariant_of-self : goal.invariant_of-self
-invariant_of-self g c =
-    let s = c.settle-balance.ensures.sound in
-    (s.dated, (s.begun, (s.sized, (s.priced, (s.loans, (s.balances, (s.terms, (s.earnings, (s.held, (s.noticed, (s.idle, tt)))))))))))
-
 pub returns : goal.returns
 returns g c =
     let n = g.P.Pledge.numbers in
