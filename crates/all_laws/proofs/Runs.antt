@@ -14,8 +14,7 @@ use Rattle.table.specs.Tables.{account_at, calling}
 use Rattle.lending.specs.Sound.{account_places}
 use Rattle.table.specs.Accounts.{balance_of, enrol_causes, apply_causes, return_causes}
 use Rattle.table.specs.Offers.{unpaid, offer_causes, withdraw_causes}
-use Rattle.table.specs.Elevens.{eleven_act, eleven_causes, pay_out_causes}
-use Rattle.table.specs.Act.{Acted}
+use Rattle.table.specs.Elevens.{eleven_causes, pay_out_causes}
 use Rattle.table.proofs.Causes.{clear}
 use Rattle.margin.specs.Backing.{Backing}
 use Rattle.margin.specs.Margins.{cover_at, floor_at, units_of, short_at}

@@ -1,16 +1,13 @@
 -- What the calls of a run add up to. Only accepted calls count, and a call's figures are those from before it.
-use Rattle.std.specs.Prelude.{ℕ, ◌+◌, ◌-◌, cond, List, length, ℤ, pos, Ok, Err, Option, ◌==◌, int_lt}
+use Rattle.std.specs.Prelude.{ℕ, ◌+◌, cond, length, ℤ, pos, Ok, Err, ◌==◌, int_lt}
 use Rattle.pledge.specs.Numbers.{Numbers}
-use Rattle.shelf.specs.declared.held.Held.{Held}
-use Rattle.draw.specs.Draws.{all_can_pay}
 use Rattle.sums.specs.Below.{below}
 use Rattle.table.specs.declared.table.Table.{Table}
 use Rattle.table.specs.Tables.{account_at, offer_at}
 use Rattle.lending.specs.Eleven.{own_fee}
 use Rattle.lending.specs.Sound.{account_places}
-use Rattle.table.specs.Accounts.{balance_of, owed_of}
+use Rattle.table.specs.Accounts.{balance_of}
 use Rattle.table.specs.Offers.{unpaid}
-use Rattle.margin.specs.BuyIns.{cost_of}
 use Rattle.margin.specs.Margins.{cover_at, target_at}
 use Rattle.book.specs.Shelves.{backing}
 use Rattle.all_laws.specs.Worlds.{World}

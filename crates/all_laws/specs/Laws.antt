@@ -1,5 +1,5 @@
 -- The laws of the book, over every run of calls: however many, in any order, with any inputs.
-use Rattle.std.specs.Prelude.{◌≡◌, ℕ, ◌+◌, ◌<◌, Bool, true, false, ◌⊎◌, ℤ, pos, ◌+ℤ◌, ◌≤ℤ◌, ◌<ℤ◌, Ok, Decides, count_ones}
+use Rattle.std.specs.Prelude.{◌≡◌, ℕ, ◌+◌, ◌<◌, Bool, true, false, ◌⊎◌, pos, ◌+ℤ◌, ◌≤ℤ◌, ◌<ℤ◌, Ok, Decides, count_ones}
 use Rattle.pledge.specs.Numbers.{Numbers}
 use Rattle.bits.specs.Bit.{bit}
 use Rattle.lending.specs.Sound.{account_places}
@@ -11,11 +11,9 @@ use Rattle.margin.specs.Notices.{ten_act}
 use Rattle.book.specs.declared.book.Book.{Book}
 use Rattle.book.specs.declared.examined.Examined.{Examined}
 use Rattle.book.specs.declared.examined.Examined.TheVariants.{Met, Short}
-use Rattle.book.specs.declared.slip.Slip.{Slip}
-use Rattle.book.specs.States.{state}
-use Rattle.book.specs.Shelves.{Shelves, backing}
+use Rattle.book.specs.Shelves.{backing}
 use Rattle.book.specs.Examinations.{Examination}
-use Rattle.all_laws.specs.Worlds.{World, New, state_of}
+use Rattle.all_laws.specs.Worlds.{World, New}
 use Rattle.all_laws.specs.Calls.{Calls}
 use Rattle.all_laws.specs.Entries.{sum_over, earned, balance_at, all_places}
 

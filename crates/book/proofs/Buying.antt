@@ -1,8 +1,7 @@
 -- A buy in that is not refused.
-use Rattle.std.proofs.Common.{◌≡◌, ℕ, ◌+◌, ◌-◌, length, ℤ, Some, None, Option, sym, ap, ◌∙◌, subst}
+use Rattle.std.proofs.Common.{◌≡◌, ℕ, ◌+◌, ◌-◌, length, ℤ, sym, ap, ◌∙◌, subst}
 use Rattle.pledge.specs.Numbers.{Numbers}
 use Rattle.draw.specs.Draws.{DrawTold, drawn, yielded}
-use Rattle.lending.specs.declared.account.Account.{Account}
 use Rattle.table.specs.declared.table.Table.{Table}
 use Rattle.table.specs.Accounts.{balance_of, owed_of}
 use Rattle.table.specs.Tables.{account_at}
@@ -10,7 +9,7 @@ use Rattle.margin.specs.declared.execution.Execution.{Execution}
 use Rattle.margin.specs.declared.purchase.Purchase.{Purchase}
 use Rattle.margin.specs.BuyIns.{Purchasable, bought_in, cost_of, passes, settled}
 use Rattle.book.specs.Shelves.{Shelves, both}
-use Rattle.book.specs.States.{State, state}
+use Rattle.book.specs.States.{state}
 use Rattle.book.specs.BuyIns.{BothDrawn, DrawnByRules, all_yields, buy_in_act, cost_in, first_ask}
 
 module _ {P Q : Type 0} (n : Numbers P) (m : Numbers Q) (t : Table) (s after : Shelves P Q) (k : ℕ) (e : Execution) (p : Purchase) (y : ℕ)

@@ -1,5 +1,5 @@
 -- Which rate stands at a price of 5,000.
-use Rattle.std.proofs.Common.{◌≡◌, ℕ, ◌*◌, ◌<◌, ◌≤◌, true, false, cond, not, ◌||◌, ltb, leb, Some, None, sym, refl, ap, ◌∙◌, arith}
+use Rattle.std.proofs.Common.{◌≡◌, ℕ, Some, None, ap, arith}
 use Rattle.std.proofs.lemmas.Bool.Decides.{nat_tests}
 use Rattle.table.specs.declared.refusal.Refusal.TheVariants.{RateTooHigh}
 use Rattle.table.specs.declared.table.Table.{Table}

@@ -1,5 +1,5 @@
 -- Worked figures of eleven o'clock: what offers give and earn, and what accounts pay.
-use Rattle.std.specs.Prelude.{◌≡◌, ℕ, false, List, [], ◌∷◌, pos, Some, Option}
+use Rattle.std.specs.Prelude.{◌≡◌, false, List, [], ◌∷◌, pos, Some, Option}
 use Rattle.lending.specs.declared.account.Account.{Account}
 use Rattle.lending.specs.declared.offer.Offer.{Offer}
 use Rattle.lending.specs.Lending.{need_of, gives, lent, fee_at}

@@ -1,18 +1,17 @@
 -- The laws, over every run.
-use Rattle.std.proofs.Common.{◌≡◌, ℕ, zero, suc, ◌+◌, ◌<◌, get_or, replicate, ℤ, pos, ◌+ℤ◌, None, sym, refl, ap, ◌∙◌, arith}
+use Rattle.std.proofs.Common.{◌≡◌, ℕ, zero, suc, ◌+◌, get_or, replicate, pos, None, refl, ap, ◌∙◌, arith}
 use lib.Count.{ones}
 use Rattle.std.proofs.lemmas.Int.{ints}
 use Rattle.pledge.specs.Numbers.{Numbers}
 use Rattle.sums.specs.Below.{below}
 use Rattle.bits.proofs.Words.{ones_none}
-use Rattle.table.specs.Tables.{blank_table}
 use Rattle.lending.specs.Sound.{account_places}
 use Rattle.table.specs.Accounts.{balance_of}
 use Rattle.table.specs.Offers.{unpaid}
 use Rattle.laws.specs.Worlds.{World, New}
-use Rattle.laws.specs.Calls.{Call, Calls, start, then}
+use Rattle.laws.specs.Calls.{Calls, start, then}
 use Rattle.laws.specs.Sums.{both, earned, balance_at, all_places, sum_over, charged}
-use Rattle.laws.specs.Laws.{Laws, BookLaws}
+use Rattle.laws.specs.Laws.{Laws}
 use Rattle.laws.proofs.Places.{none_counted}
 use Rattle.laws.proofs.Steps.{none_charged, moved}
 

@@ -1,25 +1,21 @@
 -- What one call moves.
-use Rattle.std.proofs.Common.{◌≡◌, ℕ, ◌+◌, ◌<◌, ◌≤◌, Bool, true, false, cond, not, ◌||◌, eqb, leb, List, length, get_or, set, ℤ, pos, ◌+ℤ◌, Some, None, Ok, Err, Option, sym, refl, ap, ◌∙◌, arith}
+use Rattle.std.proofs.Common.{◌≡◌, ℕ, ◌+◌, ◌<◌, false, not, length, ℤ, pos, ◌+ℤ◌, Some, None, Ok, Err, Option, refl, ap, ◌∙◌, arith}
 use lib.Count.{ones}
 use Rattle.std.specs.Option.{option_map}
 use Rattle.std.proofs.lemmas.Int.{ints}
 use Rattle.std.proofs.lemmas.Bool.{leb-false, or_parts}
 use Rattle.pledge.specs.Numbers.{Numbers}
-use Rattle.sums.specs.Below.{below}
 use Rattle.sums.proofs.Sums.{below_none}
 use Rattle.lending.specs.declared.account.Account.{Account}
 use Rattle.lending.specs.declared.offer.Offer.{Offer}
-use Rattle.lending.specs.Sound.{securities}
 use Rattle.table.specs.declared.table.Table.{Table}
 use Rattle.table.specs.Tables.{account_at, offer_at, taken, with_account, with_offer}
-use Rattle.table.specs.Act.{Acted}
 use Rattle.lending.specs.Sound.{account_places, offer_places}
-use Rattle.table.specs.Accounts.{balance_of, with_owed, with_applied, with_balance, enrolled, enrol_causes, deposit_causes}
+use Rattle.table.specs.Accounts.{balance_of, with_owed, with_applied, with_balance, enrol_causes, deposit_causes}
 use Rattle.table.specs.Offers.{unpaid, offered, offer_causes, withdraw_causes}
-use Rattle.book.specs.declared.book.Book.{Book}
 use Rattle.laws.specs.Worlds.{World}
 use Rattle.laws.specs.Calls.{Call, opens, enrols, offers, withdraws, applies, returns, deposits}
-use Rattle.laws.specs.Sums.{both, over_places, earned, balance_at, all_places, deposited, yielded, charged, cost, refunded, paid_by, issued_by, met_by, bought_by}
+use Rattle.laws.specs.Sums.{both, earned, balance_at, all_places, deposited, yielded, charged, cost, refunded, paid_by, issued_by, met_by, bought_by}
 use Rattle.table.proofs.Causes.{clear}
 use Rattle.laws.proofs.Places.{unseen, raised, resummed}
 

@@ -1,5 +1,5 @@
 -- The laws of the book, over every run of calls: however many, in any order, with any inputs.
-use Rattle.std.specs.Prelude.{◌≡◌, ℕ, ◌+◌, ◌<◌, ℤ, pos, ◌+ℤ◌, count_ones}
+use Rattle.std.specs.Prelude.{◌≡◌, ℕ, ◌+◌, ◌<◌, pos, ◌+ℤ◌, count_ones}
 use Rattle.pledge.specs.Numbers.{Numbers}
 use Rattle.lending.specs.Sound.{account_places}
 use Rattle.laws.specs.Worlds.{World, New}

@@ -1,5 +1,5 @@
 -- What keeps a table sound where notices are given and closed, and slips are out and taken back.
-use Rattle.std.proofs.Common.{◌≡◌, ℕ, ◌+◌, ◌*◌, ◌≤◌, Bool, true, false, cond, ℤ, pos, negsuc, ◌≤ℤ◌, Some, None, Option, sym, refl, ap, ◌∙◌, subst, inl, inr, arith, length-set}
+use Rattle.std.proofs.Common.{◌≡◌, ℕ, ◌+◌, ◌*◌, ◌≤◌, Bool, true, false, ℤ, pos, negsuc, ◌≤ℤ◌, Some, None, Option, sym, refl, ap, ◌∙◌, subst, inl, inr, arith, length-set}
 use Rattle.std.proofs.lemmas.Bool.{true≢false, both_ways, cond-true, cond-false}
 use Rattle.std.proofs.lemmas.Int.{ints, by_lt_z}
 use Rattle.std.specs.Option.{option_map}
@@ -11,7 +11,7 @@ use Rattle.lending.specs.Sound.{SoundLoan, SoundBalance, SoundAccount, SoundEarn
 use Rattle.shelf.specs.Limits.{top_cover}
 use Rattle.table.specs.declared.hour.Hour.TheVariants.{Morning}
 use Rattle.table.specs.declared.table.Table.{Table}
-use Rattle.table.specs.Tables.{account_at, blank, calling, elevens, taken, with_account}
+use Rattle.table.specs.Tables.{account_at, calling, elevens, taken, with_account}
 use Rattle.table.specs.Sound.{Sound}
 use Rattle.table.proofs.Slots.{each_put, of_some, of_none}
 use Rattle.table.proofs.Kept.{account_kept}

@@ -1,4 +1,4 @@
-use Rattle.std.proofs.Common.{refl, ap, ◌∙◌, rules}
+use Rattle.std.proofs.Common.{refl, rules}
 use Rattle.figures.proofs.Lending.{earns}
 use Rattle.figures.proofs.Notices.{unnoticed, noticed, lacks}
 use Rattle.figures.proofs.Rates.{stands, refused}

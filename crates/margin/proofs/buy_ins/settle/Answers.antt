@@ -1,7 +1,6 @@
-use Rattle.std.proofs.Common.{◌≡◌, ℤ, Some, Option, sym, ap, ◌∙◌, arith, w64, to_z, of_z, rules}
+use Rattle.std.proofs.Common.{◌≡◌, ℤ, Some, sym, ap, ◌∙◌, arith, w64, to_z, of_z, rules}
 use Rattle.std.specs.Option.{option_map}
 use Rattle.std.proofs.lemmas.Int.{ints}
-use Rattle.lending.specs.declared.account.Account.{Account}
 use Rattle.table.specs.Tables.{account_at}
 use Rattle.table.proofs.Kept.{kept_as}
 use Rattle.margin.specs.BuyIns.{barred_at, bought, bought_in, closed_with, settled}
