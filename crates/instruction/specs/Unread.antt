@@ -1,5 +1,5 @@
 -- Why the fields of a record cannot be read, and what reading them answers.
-use Rattle.std.specs.Prelude.{◌≡◌, ℕ, ◌+◌, ◌<◌, ◌≤◌, true, false, length, Ok, Err, Result}
+use Rattle.std.specs.Prelude.{◌≡◌, ℕ, ◌+◌, ◌<◌, true, false, length, Ok, Err, Result}
 use Rattle.cursor.specs.declared.cursor.Cursor.{Cursor}
 use Rattle.cursor.specs.declared.cursor.Short.{Short}
 use Rattle.instruction.specs.declared.instruction.Instruction.{Instruction}

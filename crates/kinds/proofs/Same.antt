@@ -1,5 +1,5 @@
 -- Two pledges with the same plain fields are one: a ghost field has one proof at most.
-use Rattle.std.proofs.Common.{◌≡◌, ℕ, ◌*◌, ◌≤◌}
+use Rattle.std.proofs.Common.{◌≡◌, ◌*◌, ◌≤◌}
 use mathlib.Core.HLevel.{is_prop→PathP}
 use native.Mathlib.Bridge.{le_prop}
 use Rattle.pledge.specs.Limits.{last_expiry}

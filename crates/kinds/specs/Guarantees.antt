@@ -1,5 +1,5 @@
 -- What a guarantee is worth: the cents not yet drawn.
-use Rattle.std.specs.Prelude.{◌≡◌, ℕ, ◌-◌, ◌*◌, ◌≤◌, min, cond, Some, None, Option, nat_le, nat_lt}
+use Rattle.std.specs.Prelude.{◌≡◌, ℕ, ◌-◌, ◌*◌, min, cond, Some, None, Option, nat_le, nat_lt}
 use Rattle.std.proofs.Common.{arith}
 use Rattle.pledge.specs.Numbers.{Numbers}
 use Rattle.kinds.specs.Amounts.{Within, thousand, top_thousands}

@@ -21,7 +21,7 @@ fn read_input(rt: &HostRuntime) -> io::Result<Vec<u8>> {
 
 fn run(rt: &HostRuntime) -> anyhow::Result<()> {
     let file = read_input(rt)?;
-    let mut printer = Printer::new(rt);
+    let mut printer = Printer::new(rt)?;
     match read_file(file.as_slice(), &mut printer) {
         Ok(()) => {
             printer.finish()?;

@@ -15,12 +15,12 @@ pub struct Printer {
 }
 
 impl Printer {
-    pub fn new(rt: &HostRuntime) -> Printer {
-        Printer {
-            out: BufWriter::new(rt.stdout()),
+    pub fn new(rt: &HostRuntime) -> io::Result<Printer> {
+        Ok(Printer {
+            out: BufWriter::new(rt.alloc(), rt.stdout())?,
             records: 0,
             printed: Ok(()),
-        }
+        })
     }
 
     pub fn print_fault(&mut self, fault: &Fault) {
