@@ -4,8 +4,9 @@ use super::call::Answer::{Done, Number, Refused, Unpaid};
 use super::call::Call::{Apply, Deposit, Enrol, Offer, Open, Return, Withdraw};
 use super::call::{Answer, Call};
 use super::pair::Pair;
-use std::alloc::Global;
-use std::test::*;
+use std::alloc::{AllocError, Global};
+use std::process::Abort;
+use std::test::Fail;
 
 /// A price for each security, so that each has other limits.
 pub const PRICES: [u32; 8] = [1, 14, 15, 100, 5_000, 12_345, 999_999, 1_000_000];
@@ -174,20 +175,19 @@ const TOO_EARLY: [(Call, Answer); 6] = [
 ];
 
 /// A book in the morning of day 1.
-pub(crate) fn opened(heap: Global) -> Result<Pair, Fail> {
+pub(crate) fn opened(rt: &impl Abort, heap: Global) -> Result<Pair, AllocError> {
     let mut pair = Pair::new(heap)?;
-    pair.expect_one(Open(PRICES), Number(1))?;
+    pair.expect_one(rt, Open(PRICES), Number(1));
     Ok(pair)
 }
 
 /// A hundred deposits of the most that one may be make the highest balance: here are 99, on account 7.
-pub(crate) fn nearly_fill(pair: &mut Pair) -> Result<(), Fail> {
+pub(crate) fn nearly_fill(rt: &impl Abort, pair: &mut Pair) {
     let mut balance: i128 = 0;
     for _ in 0..99 {
         balance = balance.wrapping_add(10_000_000_000_000);
-        pair.expect_one(Deposit(7, 10_000_000_000_000), Number(balance))?;
+        pair.expect_one(rt, Deposit(7, 10_000_000_000_000), Number(balance));
     }
-    Ok(())
 }
 
 fn with_price(security: usize, price: u32) -> [u32; 8] {
@@ -204,9 +204,9 @@ fn limits_of_prices(rt: HostRuntime) -> Result<(), Fail> {
         for good in [1, 2, 999_999, 1_000_000] {
             let mut pair = Pair::new(rt.alloc())?;
             for bad in [0, 1_000_001, 4_294_967_295] {
-                pair.expect_one(Open(with_price(security, bad)), Refused(2))?;
+                pair.expect_one(&rt, Open(with_price(security, bad)), Refused(2));
             }
-            pair.expect_one(Open(with_price(security, good)), Number(1))?;
+            pair.expect_one(&rt, Open(with_price(security, good)), Number(1));
         }
     }
     Ok(())
@@ -215,48 +215,56 @@ fn limits_of_prices(rt: HostRuntime) -> Result<(), Fail> {
 #[test]
 fn limits_of_places_and_values(rt: HostRuntime) -> Result<(), Fail> {
     let heap = rt.alloc();
-    opened(heap)?.expect(&ENROLS).note("enrols")?;
-    opened(heap)?.expect(&OFFERS).note("offers")?;
-    opened(heap)?.expect(&RATES).note("rates")?;
-    opened(heap)?.expect(&WITHDRAWALS).note("withdrawals")?;
-    opened(heap)?.expect(&APPLICATIONS).note("applications")?;
-    opened(heap)?.expect(&RETURNS).note("returns")?;
-    opened(heap)?.expect(&DEPOSITS).note("deposits")
+    opened(&rt, heap)?.expect(&rt, &"enrols", &ENROLS);
+    opened(&rt, heap)?.expect(&rt, &"offers", &OFFERS);
+    opened(&rt, heap)?.expect(&rt, &"rates", &RATES);
+    opened(&rt, heap)?.expect(&rt, &"withdrawals", &WITHDRAWALS);
+    opened(&rt, heap)?.expect(&rt, &"applications", &APPLICATIONS);
+    opened(&rt, heap)?.expect(&rt, &"returns", &RETURNS);
+    opened(&rt, heap)?.expect(&rt, &"deposits", &DEPOSITS);
+    Ok(())
 }
 
 #[test]
 fn limit_of_a_balance(rt: HostRuntime) -> Result<(), Fail> {
-    let mut pair = opened(rt.alloc())?;
-    pair.expect(&[(Enrol(7, 1, 4), Done), (Enrol(8, 2, 4), Done)])?;
-    nearly_fill(&mut pair)?;
-    pair.expect(&LAST_DEPOSITS)
+    let mut pair = opened(&rt, rt.alloc())?;
+    pair.expect(
+        &rt,
+        &"accounts",
+        &[(Enrol(7, 1, 4), Done), (Enrol(8, 2, 4), Done)],
+    );
+    nearly_fill(&rt, &mut pair);
+    pair.expect(&rt, &"last deposits", &LAST_DEPOSITS);
+    Ok(())
 }
 
 /// Every account place is one of its own, and so is every offer place.
 #[test]
 fn all_places(rt: HostRuntime) -> Result<(), Fail> {
-    let mut pair = opened(rt.alloc())?;
+    let mut pair = opened(&rt, rt.alloc())?;
     for account in 0..64 {
-        pair.expect_one(Deposit(account, 1), Refused(5))?;
-        pair.expect_one(Enrol(account, 9_999, account % 8), Done)?;
-        pair.expect_one(Enrol(account, 1, 0), Refused(4))?;
+        pair.expect_one(&rt, Deposit(account, 1), Refused(5));
+        pair.expect_one(&rt, Enrol(account, 9_999, account % 8), Done);
+        pair.expect_one(&rt, Enrol(account, 1, 0), Refused(4));
         pair.expect_one(
+            &rt,
             Deposit(account, u64::from(account) + 1),
             Number(i128::from(account) + 1),
-        )?;
+        );
         pair.expect_one(
+            &rt,
             Apply(account, u16::from(account) + 1),
             Number(i128::from(account) + 1),
-        )?;
+        );
     }
     for place in 0..256 {
-        pair.expect_one(Withdraw(place), Refused(5))?;
-        pair.expect_one(Offer(place, 4, 1_000, 350, 10), Done)?;
-        pair.expect_one(Offer(place, 7, 1, 0, 0), Refused(4))?;
+        pair.expect_one(&rt, Withdraw(place), Refused(5));
+        pair.expect_one(&rt, Offer(place, 4, 1_000, 350, 10), Done);
+        pair.expect_one(&rt, Offer(place, 7, 1, 0, 0), Refused(4));
     }
     for place in 0..256 {
-        pair.expect_one(Withdraw(place), Unpaid(0, 0))?;
-        pair.expect_one(Withdraw(place), Refused(5))?;
+        pair.expect_one(&rt, Withdraw(place), Unpaid(0, 0));
+        pair.expect_one(&rt, Withdraw(place), Refused(5));
     }
     Ok(())
 }
@@ -266,13 +274,14 @@ fn all_places(rt: HostRuntime) -> Result<(), Fail> {
 #[test]
 fn hours(rt: HostRuntime) -> Result<(), Fail> {
     let mut pair = Pair::new(rt.alloc())?;
-    pair.look_at_all()?;
-    pair.expect(&TOO_EARLY)?;
-    pair.expect_one(Open(PRICES), Number(1))?;
-    pair.expect_one(Open(PRICES), Refused(3))?;
-    pair.expect_one(Withdraw(0), Refused(5))?;
-    pair.expect_one(Deposit(0, 1), Refused(5))?;
-    pair.expect_one(Enrol(0, 1, 0), Done)?;
-    pair.expect_one(Open([1_000_000; 8]), Refused(3))?;
-    pair.expect_one(Apply(0, 1), Number(1))
+    pair.look_at_all(&rt, &"a blank book");
+    pair.expect(&rt, &"too early", &TOO_EARLY);
+    pair.expect_one(&rt, Open(PRICES), Number(1));
+    pair.expect_one(&rt, Open(PRICES), Refused(3));
+    pair.expect_one(&rt, Withdraw(0), Refused(5));
+    pair.expect_one(&rt, Deposit(0, 1), Refused(5));
+    pair.expect_one(&rt, Enrol(0, 1, 0), Done);
+    pair.expect_one(&rt, Open([1_000_000; 8]), Refused(3));
+    pair.expect_one(&rt, Apply(0, 1), Number(1));
+    Ok(())
 }

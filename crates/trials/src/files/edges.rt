@@ -26,12 +26,17 @@ fn a_record_has_all_its_fields(rt: HostRuntime) -> Result<(), Fail> {
     let heap = rt.alloc();
     for (kind, width) in KINDS {
         let whole = one_record(kind, width, b"", heap)?;
-        both_find(&rt, &whole, 1, None, heap).note(format_args!("kind {kind}"))?;
+        both_find(&rt, &format_args!("kind {kind}"), &whole, 1, None, heap)?;
         if let Some(less) = width.checked_sub(1) {
             let short = one_record(kind, less, b"", heap)?;
-            both_find(&rt, &short, 0, Some(BAD_LENGTH), heap).note(format_args!(
-                "short kind {kind}"
-            ))?;
+            both_find(
+                &rt,
+                &format_args!("short kind {kind}"),
+                &short,
+                0,
+                Some(BAD_LENGTH),
+                heap,
+            )?;
         }
     }
     Ok(())
@@ -42,15 +47,32 @@ fn a_memo_has_at_most_64_bytes(rt: HostRuntime) -> Result<(), Fail> {
     let heap = rt.alloc();
     for (kind, width) in KINDS {
         let longest = one_record(kind, width, &DASHES[1..], heap)?;
-        both_find(&rt, &longest, 1, None, heap).note(format_args!("kind {kind} with 64"))?;
+        both_find(
+            &rt,
+            &format_args!("kind {kind} with 64"),
+            &longest,
+            1,
+            None,
+            heap,
+        )?;
         let longer = one_record(kind, width, &DASHES, heap)?;
-        both_find(&rt, &longer, 0, Some(BAD_LENGTH), heap).note(format_args!(
-            "kind {kind} with 65"
-        ))?;
+        both_find(
+            &rt,
+            &format_args!("kind {kind} with 65"),
+            &longer,
+            0,
+            Some(BAD_LENGTH),
+            heap,
+        )?;
         let odd = one_record(kind, width, &SPACES, heap)?;
-        both_find(&rt, &odd, 0, Some(BAD_LENGTH), heap).note(format_args!(
-            "kind {kind} with 65 odd"
-        ))?;
+        both_find(
+            &rt,
+            &format_args!("kind {kind} with 65 odd"),
+            &odd,
+            0,
+            Some(BAD_LENGTH),
+            heap,
+        )?;
     }
     let no_kind = Told {
         layer: Layer::Record,
@@ -59,12 +81,12 @@ fn a_memo_has_at_most_64_bytes(rt: HostRuntime) -> Result<(), Fail> {
     };
     both_find(
         &rt,
+        &"kind 17 with 65",
         &one_record(17, 32, &DASHES, heap)?,
         0,
         Some(no_kind),
         heap,
     )
-    .note("kind 17 with 65")
 }
 
 #[test]
@@ -76,13 +98,23 @@ fn a_memo_has_bytes_33_to_126(rt: HostRuntime) -> Result<(), Fail> {
             let records = if plain { 1 } else { 0 };
             let fault = if plain { None } else { Some(ODD_MEMO) };
             let first = one_record(kind, width, &[byte, b'a', b'a'], heap)?;
-            both_find(&rt, &first, records, fault, heap).note(format_args!(
-                "kind {kind}, first {byte}"
-            ))?;
+            both_find(
+                &rt,
+                &format_args!("kind {kind}, first {byte}"),
+                &first,
+                records,
+                fault,
+                heap,
+            )?;
             let last = one_record(kind, width, &[b'a', b'a', byte], heap)?;
-            both_find(&rt, &last, records, fault, heap).note(format_args!(
-                "kind {kind}, last {byte}"
-            ))?;
+            both_find(
+                &rt,
+                &format_args!("kind {kind}, last {byte}"),
+                &last,
+                records,
+                fault,
+                heap,
+            )?;
         }
     }
     Ok(())

@@ -121,7 +121,7 @@ fn try_all(
             number,
             place: *place,
         };
-        both_find(rt, file, *records, Some(told), heap).note(*why)?;
+        both_find(rt, why, file, *records, Some(told), heap)?;
     }
     Ok(())
 }

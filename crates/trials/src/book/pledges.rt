@@ -4,7 +4,7 @@ use super::call::Answer::{Done, Number, Refused};
 use super::call::Call::{Apply, Bonds, Deposit, Enrol, Guarantee, Release};
 use super::call::{Answer, Call};
 use super::limits::opened;
-use std::test::*;
+use std::test::Fail;
 
 /// A thousand is 100,000 cents, and a block covers 9,000,000. It is day 1.
 const PLEDGES: [(Call, Answer); 35] = [
@@ -126,56 +126,60 @@ const STRANGE: [(Call, Answer); 14] = [
 
 #[test]
 fn limits_of_pledges(rt: HostRuntime) -> Result<(), Fail> {
-    opened(rt.alloc())?.expect(&PLEDGES)
+    opened(&rt, rt.alloc())?.expect(&rt, &"pledges", &PLEDGES);
+    Ok(())
 }
 
 #[test]
 fn limits_of_releases(rt: HostRuntime) -> Result<(), Fail> {
     let heap = rt.alloc();
-    opened(heap)?.expect(&RELEASES).note("places")?;
-    opened(heap)?.expect(&DOWN_TO_THE_TARGET).note("target")
+    opened(&rt, heap)?.expect(&rt, &"places", &RELEASES);
+    opened(&rt, heap)?.expect(&rt, &"target", &DOWN_TO_THE_TARGET);
+    Ok(())
 }
 
 #[test]
 fn releases_by_expiry(rt: HostRuntime) -> Result<(), Fail> {
-    let mut pair = opened(rt.alloc())?;
+    let mut pair = opened(&rt, rt.alloc())?;
     pair.shelves.put_guarantee(0, 3, 10, 0);
     pair.shelves.put_guarantee(1, 3, 10, 1);
     pair.shelves.put_guarantee(2, 3, 10, 2);
     pair.shelves.put_bond(0, 3, 1, 0);
     pair.shelves.put_bond(1, 3, 1, 1);
-    pair.expect(&BY_EXPIRY)
+    pair.expect(&rt, &"by expiry", &BY_EXPIRY);
+    Ok(())
 }
 
 #[test]
 fn releases_of_strange_accounts(rt: HostRuntime) -> Result<(), Fail> {
-    let mut pair = opened(rt.alloc())?;
+    let mut pair = opened(&rt, rt.alloc())?;
     for (place, account) in [(9, 9), (63, 63), (64, 64), (127, 255)] {
         pair.shelves.put_guarantee(place, account, 5, 2);
         pair.shelves.put_bond(place, account, 1, 2);
     }
-    pair.expect(&STRANGE)
+    pair.expect(&rt, &"strange", &STRANGE);
+    Ok(())
 }
 
 /// Every place of both shelves is one of its own.
 #[test]
 fn all_shelf_places(rt: HostRuntime) -> Result<(), Fail> {
-    let mut pair = opened(rt.alloc())?;
-    pair.expect_one(Enrol(5, 1, 4), Done)?;
+    let mut pair = opened(&rt, rt.alloc())?;
+    pair.expect_one(&rt, Enrol(5, 1, 4), Done);
     let mut cover: i128 = 0;
     for place in 0..128 {
         cover = cover.wrapping_add(100_000);
-        pair.expect_one(Guarantee(5, place, 1, 2), Number(cover))?;
+        pair.expect_one(&rt, Guarantee(5, place, 1, 2), Number(cover));
         cover = cover.wrapping_add(9_000_000);
-        pair.expect_one(Bonds(5, place, 1, 2), Number(cover))?;
+        pair.expect_one(&rt, Bonds(5, place, 1, 2), Number(cover));
     }
     for place in 0..128 {
-        pair.expect_one(Guarantee(5, place, 1, 2), Refused(4))?;
-        pair.expect_one(Bonds(5, place, 1, 2), Refused(4))?;
+        pair.expect_one(&rt, Guarantee(5, place, 1, 2), Refused(4));
+        pair.expect_one(&rt, Bonds(5, place, 1, 2), Refused(4));
         cover = cover.wrapping_sub(100_000);
-        pair.expect_one(Release(0, place), Number(cover))?;
+        pair.expect_one(&rt, Release(0, place), Number(cover));
         cover = cover.wrapping_sub(9_000_000);
-        pair.expect_one(Release(1, place), Number(cover))?;
+        pair.expect_one(&rt, Release(1, place), Number(cover));
     }
     assert_eq!(rt; cover, 0);
     Ok(())

@@ -8,7 +8,7 @@ use super::shelves::Shelves;
 use super::tried::cents;
 use book::{Book, Pledged};
 use kinds::{Bond, Guarantee};
-use std::test::*;
+use std::test::Fail;
 
 fn pledge_bonds(book: &Book, shelves: &mut Shelves, blocks: u16) -> Answer {
     match Bond::new(blocks, 9) {
@@ -42,8 +42,8 @@ fn release(book: &Book, shelves: &mut Shelves, shelf: u8) -> Answer {
 
 #[test]
 fn bonds_first_and_guarantees_second(rt: HostRuntime) -> Result<(), Fail> {
-    let mut pair = opened(rt.alloc())?;
-    pair.expect_one(Enrol(3, 1, 4), Done)?;
+    let mut pair = opened(&rt, rt.alloc())?;
+    pair.expect_one(&rt, Enrol(3, 1, 4), Done);
     let book = &pair.book;
     let shelves = &mut pair.shelves;
     assert_eq!(rt; pledge_bonds(book, shelves, 2), Number(18_000_000));
@@ -55,5 +55,6 @@ fn bonds_first_and_guarantees_second(rt: HostRuntime) -> Result<(), Fail> {
     assert_eq!(rt; release(book, shelves, 0), Refused(5));
     assert_eq!(rt; release(book, shelves, 1), Number(0));
     assert_eq!(rt; release(book, shelves, 1), Refused(5));
-    pair.look_at_all()
+    pair.look_at_all(&rt, &"bonds first");
+    Ok(())
 }

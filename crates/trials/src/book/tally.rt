@@ -1,6 +1,6 @@
 // How often each call was made and what it was answered, so that no cause is left out by chance.
 use super::call::{Answer, Call};
-use std::test::*;
+use std::process::Abort;
 
 const KINDS: usize = 14;
 
@@ -10,23 +10,8 @@ const RETURN: usize = 5;
 /// An examination that finds cover at the target, which has a row to itself.
 const MET: usize = 13;
 
-/// The causes for which each call can be refused so far, in the order of the rows.
-const CAUSES: [(&'static str, &'static [usize]); KINDS] = [
-    ("open", &[2, 3]),
-    ("enrol", &[1, 2, 3, 4]),
-    ("offer", &[1, 2, 3, 4, 8]),
-    ("withdraw", &[1, 3, 5]),
-    ("apply", &[1, 2, 3, 5, 7]),
-    ("return", &[1, 2, 3, 5, 7]),
-    ("deposit", &[1, 2, 3, 5, 10, 14]),
-    ("pledge of a guarantee", &[1, 3, 4, 5, 10, 15]),
-    ("pledge of bonds", &[1, 3, 4, 5, 10, 15]),
-    ("release", &[1, 3, 5, 10, 12]),
-    ("ten", &[1, 3]),
-    ("examine and find short", &[1, 3, 5, 9]),
-    ("wait", &[9]),
-    ("examine and find met", &[]),
-];
+/// A call, and the causes for which it has to be refused, in the order of the rows.
+pub type Row = (&'static str, &'static [usize]);
 
 /// For each row how often the call was refused for each cause, and at 0 how often it was not refused.
 #[derive(Drop)]
@@ -61,24 +46,23 @@ impl Tally {
     }
 
     /// Every call came through fifty times, but for the return of what nobody owes, and was refused ten times for each cause.
-    pub(crate) fn is_enough(&self) -> Result<(), Fail> {
-        for (row, (name, causes)) in CAUSES.iter().enumerate() {
+    pub(crate) fn is_enough(&self, rt: &impl Abort, rows: &[Row]) {
+        for (row, (name, causes)) in rows.iter().enumerate() {
             let accepted = self.at(row, 0);
             let enough = if row == RETURN {
                 accepted == 0
             } else {
                 accepted >= 50
             };
-            assert!(enough, "{name} came through {accepted} times");
+            assert!(rt; enough, "{name} came through {accepted} times");
             for cause in causes.iter() {
                 let refused = self.at(row, *cause);
-                assert!(
+                assert!(rt;
                     refused >= 10,
                     "{name} was refused {refused} times for {cause}"
                 );
             }
         }
-        Ok(())
     }
 }
 

@@ -4,7 +4,7 @@ use super::call::Call::{Apply, Deposit, Enrol, Offer, Open, Return, Withdraw};
 use super::call::{Answer, Call};
 use super::limits::{PRICES, nearly_fill, opened};
 use super::pair::Pair;
-use std::test::*;
+use std::test::Fail;
 
 /// Before the first day there are no prices, so no rate is held to one.
 const BLANK: [(Call, Answer); 30] = [
@@ -91,14 +91,20 @@ const MORNING: [(Call, Answer); 42] = [
 
 #[test]
 fn the_first_cause_before_the_first_day(rt: HostRuntime) -> Result<(), Fail> {
-    Pair::new(rt.alloc())?.expect(&BLANK)
+    Pair::new(rt.alloc())?.expect(&rt, &"blank", &BLANK);
+    Ok(())
 }
 
 #[test]
 fn the_first_cause_in_the_morning(rt: HostRuntime) -> Result<(), Fail> {
-    let mut pair = opened(rt.alloc())?;
-    pair.expect(&[(Enrol(7, 1, 4), Done), (Offer(0, 4, 1, 0, 0), Done)])?;
-    nearly_fill(&mut pair)?;
-    pair.expect(&MORNING)?;
-    pair.expect_one(Deposit(7, 1), Refused(14))
+    let mut pair = opened(&rt, rt.alloc())?;
+    pair.expect(
+        &rt,
+        &"start",
+        &[(Enrol(7, 1, 4), Done), (Offer(0, 4, 1, 0, 0), Done)],
+    );
+    nearly_fill(&rt, &mut pair);
+    pair.expect(&rt, &"morning", &MORNING);
+    pair.expect_one(&rt, Deposit(7, 1), Refused(14));
+    Ok(())
 }

@@ -9,7 +9,9 @@ use super::call::{Answer, Call};
 use super::limits::{PRICES, opened};
 use super::pair::Pair;
 use super::tried::spent;
-use std::test::*;
+use std::alloc::{AllocError, Global};
+use std::process::Abort;
+use std::test::Fail;
 
 /// Accounts 0, 3 and 5 come one cent below their floors, by cash, by a guarantee and by bonds, and accounts 1, 2 and 4 to
 /// theirs. Account 6 asks for nothing and has nothing; account 63 asks for all that it may and has nothing. Of the security
@@ -114,40 +116,49 @@ const MORNING_ONLY: [(Call, Answer); 8] = [
 
 #[test]
 fn around_floor_and_target(rt: HostRuntime) -> Result<(), Fail> {
-    let mut pair = opened(rt.alloc())?;
-    pair.expect(&AROUND_THE_FLOOR)?;
+    let mut pair = opened(&rt, rt.alloc())?;
+    pair.expect(&rt, &"floor", &AROUND_THE_FLOOR);
     assert_eq!(rt; pair.book.notice_word(), FOUR_NOTICES);
-    pair.expect(&SLIPS).note("slips")?;
+    pair.expect(&rt, &"slips", &SLIPS);
     assert_eq!(rt; pair.book.notice_word(), FOUR_NOTICES, "held by slips");
-    pair.expect(&AROUND_THE_TARGET).note("target")?;
+    pair.expect(&rt, &"target", &AROUND_THE_TARGET);
     assert_eq!(rt; pair.book.notice_word(), LAST_NOTICE, "met but one");
     Ok(())
 }
 
 #[test]
 fn hours_of_the_calling_hour(rt: HostRuntime) -> Result<(), Fail> {
-    let mut pair = opened(rt.alloc())?;
-    pair.expect(&[
-        (Enrol(0, 1, 4), Done),
-        (Apply(0, 1), Number(1)),
-        (Offer(0, 4, 1, 0, 0), Done),
-        (Examine(0), Refused(3)),
-        (Ten, Number(1)),
-    ])?;
-    pair.expect(&MORNING_ONLY)?;
-    pair.expect_one(Examine(0), Short(5_999_999, 0))
+    let mut pair = opened(&rt, rt.alloc())?;
+    pair.expect(
+        &rt,
+        &"start",
+        &[
+            (Enrol(0, 1, 4), Done),
+            (Apply(0, 1), Number(1)),
+            (Offer(0, 4, 1, 0, 0), Done),
+            (Examine(0), Refused(3)),
+            (Ten, Number(1)),
+        ],
+    );
+    pair.expect(&rt, &"morning only", &MORNING_ONLY);
+    pair.expect_one(&rt, Examine(0), Short(5_999_999, 0));
+    Ok(())
 }
 
 /// With nobody short there is a calling hour all the same.
 #[test]
 fn ten_without_accounts(rt: HostRuntime) -> Result<(), Fail> {
-    let mut pair = opened(rt.alloc())?;
-    pair.expect(&[
-        (Ten, Number(0)),
-        (Ten, Refused(3)),
-        (Examine(0), Refused(5)),
-        (Wait(0), Refused(9)),
-    ])?;
+    let mut pair = opened(&rt, rt.alloc())?;
+    pair.expect(
+        &rt,
+        &"no accounts",
+        &[
+            (Ten, Number(0)),
+            (Ten, Refused(3)),
+            (Examine(0), Refused(5)),
+            (Wait(0), Refused(9)),
+        ],
+    );
     assert_eq!(rt; pair.book.notice_word(), 0);
     Ok(())
 }
@@ -155,63 +166,81 @@ fn ten_without_accounts(rt: HostRuntime) -> Result<(), Fail> {
 /// Every notice and every slip is one of its own.
 #[test]
 fn all_notices(rt: HostRuntime) -> Result<(), Fail> {
-    let mut pair = opened(rt.alloc())?;
+    let mut pair = opened(&rt, rt.alloc())?;
     for account in 0..64 {
-        pair.expect_one(Enrol(account, 1, 4), Done)?;
-        pair.expect_one(Apply(account, 1), Number(1))?;
+        pair.expect_one(&rt, Enrol(account, 1, 4), Done);
+        pair.expect_one(&rt, Apply(account, 1), Number(1));
     }
-    pair.expect_one(Ten, Number(64))?;
+    pair.expect_one(&rt, Ten, Number(64));
     assert_eq!(rt; pair.book.notice_word(), u64::MAX);
     for account in 0..64 {
-        pair.expect_one(Wait(account), Refused(9))?;
-        pair.expect_one(Examine(account), Short(6_000_000, account))?;
-        pair.expect_one(Examine(account), Refused(9))?;
+        pair.expect_one(&rt, Wait(account), Refused(9));
+        pair.expect_one(&rt, Examine(account), Short(6_000_000, account));
+        pair.expect_one(&rt, Examine(account), Refused(9));
     }
     assert_eq!(rt; pair.book.notice_word(), u64::MAX);
     for account in 0..64 {
-        pair.expect_one(Deposit(account, 6_000_000), Refused(10))?;
-        pair.expect_one(Wait(account), Done)?;
-        pair.expect_one(Deposit(account, 6_000_000), Number(6_000_000))?;
-        pair.expect_one(Examine(account), Met)?;
+        pair.expect_one(&rt, Deposit(account, 6_000_000), Refused(10));
+        pair.expect_one(&rt, Wait(account), Done);
+        pair.expect_one(&rt, Deposit(account, 6_000_000), Number(6_000_000));
+        pair.expect_one(&rt, Examine(account), Met);
     }
     assert_eq!(rt; pair.book.notice_word(), 0);
     Ok(())
 }
 
 /// A book with account 0 short by 6,000,000 cents, and a slip out for it.
-fn with_a_slip_out(rt: &HostRuntime) -> Result<Pair, Fail> {
-    let mut pair = opened(rt.alloc())?;
-    pair.expect(&[
-        (Enrol(0, 1, 4), Done),
-        (Apply(0, 1), Number(1)),
-        (Ten, Number(1)),
-        (Examine(0), Short(6_000_000, 0)),
-    ])?;
+fn with_a_slip_out(rt: &impl Abort, heap: Global) -> Result<Pair, AllocError> {
+    let mut pair = opened(rt, heap)?;
+    pair.expect(
+        rt,
+        &"a slip out",
+        &[
+            (Enrol(0, 1, 4), Done),
+            (Apply(0, 1), Number(1)),
+            (Ten, Number(1)),
+            (Examine(0), Short(6_000_000, 0)),
+        ],
+    );
     Ok(pair)
 }
 
 /// A slip that one book gave is spent on a blank one, which knows nothing of it: the first book's account stays under a slip.
 #[test]
 fn a_slip_of_another_book(rt: HostRuntime) -> Result<(), Fail> {
-    let mut giver = with_a_slip_out(&rt)?;
+    let mut giver = with_a_slip_out(&rt, rt.alloc())?;
     let mut blank = Pair::new(rt.alloc())?;
     let kept = giver.slips.take(0);
     assert_eq!(rt; spent(&mut blank.book, kept), Refused(9));
-    blank.look_at_all()?;
-    giver.look_at_all()?;
-    giver.expect(&[(Deposit(0, 1), Refused(10)), (Examine(0), Refused(9))])?;
+    blank.look_at_all(&rt, &"blank");
+    giver.look_at_all(&rt, &"giver");
+    giver.expect(
+        &rt,
+        &"under a slip",
+        &[(Deposit(0, 1), Refused(10)), (Examine(0), Refused(9))],
+    );
     // Any slip for the account lets it go.
-    giver.expect(&[(WaitAstray(0), Done), (Deposit(0, 1), Number(1))])?;
-    blank.expect_one(Open(PRICES), Number(1))
+    giver.expect(
+        &rt,
+        &"any slip",
+        &[(WaitAstray(0), Done), (Deposit(0, 1), Number(1))],
+    );
+    blank.expect_one(&rt, Open(PRICES), Number(1));
+    Ok(())
 }
 
 /// Two books with a slip out for the same account take each other's.
 #[test]
 fn slips_of_two_books(rt: HostRuntime) -> Result<(), Fail> {
-    let mut one = with_a_slip_out(&rt)?;
-    let mut other = with_a_slip_out(&rt)?;
+    let mut one = with_a_slip_out(&rt, rt.alloc())?;
+    let mut other = with_a_slip_out(&rt, rt.alloc())?;
     std::mem::swap(&mut one.slips, &mut other.slips);
-    one.expect(&[(Wait(0), Done), (Wait(0), Refused(9))])?;
-    other.expect(&[(Deposit(0, 1), Refused(10)), (Wait(0), Done)])?;
-    other.expect_one(Deposit(0, 1), Number(1))
+    one.expect(&rt, &"one", &[(Wait(0), Done), (Wait(0), Refused(9))]);
+    other.expect(
+        &rt,
+        &"other",
+        &[(Deposit(0, 1), Refused(10)), (Wait(0), Done)],
+    );
+    other.expect_one(&rt, Deposit(0, 1), Number(1));
+    Ok(())
 }

@@ -3,24 +3,24 @@ use super::call::Call;
 use super::pair::Pair;
 use super::plain::Plain;
 use super::second::Second;
-use dice::Dice;
+use crate::dice::Dice;
 
 pub const TOP_DEPOSIT: u64 = 10_000_000_000_000;
 
-fn byte(number: u64) -> u8 {
+pub(crate) fn byte(number: u64) -> u8 {
     u8::try_from(number).unwrap_or(u8::MAX)
 }
 
-fn short(number: u64) -> u16 {
+pub(crate) fn short(number: u64) -> u16 {
     u16::try_from(number).unwrap_or(u16::MAX)
 }
 
-fn long(number: u64) -> u32 {
+pub(crate) fn long(number: u64) -> u32 {
     u32::try_from(number).unwrap_or(u32::MAX)
 }
 
 /// Mostly one of the first `few` accounts, which come up often enough to fill.
-fn some_account(dice: &mut Dice, few: u64) -> u8 {
+pub(crate) fn some_account(dice: &mut Dice, few: u64) -> u8 {
     match dice.below(24) {
         0 => byte(dice.near(0, 63)),
         1 => 64,
@@ -42,7 +42,7 @@ fn some_called(dice: &mut Dice, second: &Second, few: u64) -> u8 {
     found
 }
 
-fn some_place(dice: &mut Dice) -> u16 {
+pub(crate) fn some_place(dice: &mut Dice) -> u16 {
     match dice.below(16) {
         0 => short(dice.near(0, 255)),
         1 => 256,
@@ -65,7 +65,7 @@ fn some_price(dice: &mut Dice) -> u32 {
     }
 }
 
-fn some_prices(dice: &mut Dice) -> [u32; 8] {
+pub(crate) fn some_prices(dice: &mut Dice) -> [u32; 8] {
     let mut prices = [0; 8];
     for price in prices.iter_mut() {
         *price = some_price(dice);
@@ -90,7 +90,7 @@ fn some_rate(dice: &mut Dice, price: i128) -> u32 {
     long(dice.near(0, u64::try_from(most).unwrap_or(0)))
 }
 
-fn some_offer(dice: &mut Dice, second: &Second) -> Call {
+pub(crate) fn some_offer(dice: &mut Dice, second: &Second) -> Call {
     let security = byte(dice.near(0, 7));
     let rate = some_rate(dice, second.price(security));
     Call::Offer(
@@ -103,7 +103,7 @@ fn some_offer(dice: &mut Dice, second: &Second) -> Call {
 }
 
 /// Small numbers as well, so that an account can take many.
-fn some_units(dice: &mut Dice) -> u16 {
+pub(crate) fn some_units(dice: &mut Dice) -> u16 {
     let most = if dice.one_in(2) { 20 } else { 1_000 };
     short(dice.near(1, most))
 }

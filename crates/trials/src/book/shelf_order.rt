@@ -9,8 +9,10 @@ use super::call::{Answer, Call};
 use super::limits::{PRICES, opened};
 use super::pair::Pair;
 use super::shelves::Shelves;
-use std::alloc::Global;
-use std::test::*;
+use std::alloc::{AllocError, Global};
+use std::fmt::Display;
+use std::process::Abort;
+use std::test::Fail;
 
 /// On day 0. Place 5 of each shelf has a pledge.
 const BLANK: [(Call, Answer); 26] = [
@@ -163,51 +165,72 @@ fn lodge(pair: &mut Pair) {
     }
 }
 
-fn with_accounts(heap: Global) -> Result<Pair, Fail> {
-    let mut pair = opened(heap)?;
+fn with_accounts(rt: &impl Abort, heap: Global) -> Result<Pair, AllocError> {
+    let mut pair = opened(rt, heap)?;
     lodge(&mut pair);
-    pair.expect(&[
-        (Enrol(7, 1, 4), Done),
-        (Apply(7, 1), Number(1)),
-        (Enrol(8, 1, 4), Done),
-    ])?;
+    pair.expect(
+        rt,
+        &"accounts",
+        &[
+            (Enrol(7, 1, 4), Done),
+            (Apply(7, 1), Number(1)),
+            (Enrol(8, 1, 4), Done),
+        ],
+    );
     Ok(pair)
 }
 
 /// Refuses all calls over crooked shelves, and has its own again afterwards.
-fn refuse_crooked(pair: &mut Pair, heap: Global) -> Result<(), Fail> {
+fn refuse_crooked(
+    rt: &impl Abort,
+    what: &impl Display,
+    pair: &mut Pair,
+    heap: Global,
+) -> Result<(), AllocError> {
     for (first, second) in CROOKED_PLACES {
         let crooked = Shelves::empty(first, second, heap)?;
         let whole = std::mem::replace(&mut pair.shelves, crooked);
-        pair.expect(&CROOKED)
-            .note(format_args!("{first} and {second} places"))?;
+        pair.expect(
+            rt,
+            &format_args!("{what}, {first} and {second} places"),
+            &CROOKED,
+        );
         pair.shelves = whole;
     }
-    pair.look_at_all()
+    pair.look_at_all(rt, what);
+    Ok(())
 }
 
 #[test]
 fn the_first_cause_on_shelves_before_the_first_day(rt: HostRuntime) -> Result<(), Fail> {
     let mut pair = Pair::new(rt.alloc())?;
     lodge(&mut pair);
-    pair.expect(&BLANK)?;
-    refuse_crooked(&mut pair, rt.alloc())
+    pair.expect(&rt, &"blank", &BLANK);
+    refuse_crooked(&rt, &"blank", &mut pair, rt.alloc())?;
+    Ok(())
 }
 
 #[test]
 fn the_first_cause_on_shelves_in_the_morning(rt: HostRuntime) -> Result<(), Fail> {
-    let mut pair = with_accounts(rt.alloc())?;
-    pair.expect(&MORNING)?;
-    refuse_crooked(&mut pair, rt.alloc())?;
-    pair.expect_one(Ten, Number(1))
+    let mut pair = with_accounts(&rt, rt.alloc())?;
+    pair.expect(&rt, &"morning", &MORNING);
+    refuse_crooked(&rt, &"morning", &mut pair, rt.alloc())?;
+    pair.expect_one(&rt, Ten, Number(1));
+    Ok(())
 }
 
 #[test]
 fn the_first_cause_in_the_calling_hour(rt: HostRuntime) -> Result<(), Fail> {
-    let mut pair = with_accounts(rt.alloc())?;
-    pair.expect_one(Ten, Number(1))?;
-    refuse_crooked(&mut pair, rt.alloc())?;
-    pair.expect(&CALLING)?;
-    pair.expect(&UNDER_A_SLIP).note("under a slip")?;
-    refuse_crooked(&mut pair, rt.alloc()).note("with a notice that was left open")
+    let mut pair = with_accounts(&rt, rt.alloc())?;
+    pair.expect_one(&rt, Ten, Number(1));
+    refuse_crooked(&rt, &"calling", &mut pair, rt.alloc())?;
+    pair.expect(&rt, &"calling", &CALLING);
+    pair.expect(&rt, &"under a slip", &UNDER_A_SLIP);
+    refuse_crooked(
+        &rt,
+        &"with a notice that was left open",
+        &mut pair,
+        rt.alloc(),
+    )?;
+    Ok(())
 }

@@ -19,13 +19,20 @@ fn a_file_has_at_most_65536_bytes(rt: HostRuntime) -> Result<(), Fail> {
         put_record(&mut file, 11, b"", b"")?;
     }
     assert_eq!(rt; file.len(), 65_536);
-    both_find(&rt, &file, 21_845, None, heap).note("the greatest")?;
+    both_find(&rt, &"the greatest", &file, 21_845, None, heap)?;
     file.push(0)?;
-    both_find(&rt, &file, 0, Some(TOO_LONG), heap).note("a byte more")?;
+    both_find(&rt, &"a byte more", &file, 0, Some(TOO_LONG), heap)?;
     if let Some(version) = file.get_mut(0) {
         *version = 2;
     }
-    both_find(&rt, &file, 0, Some(TOO_LONG), heap).note("a byte more and no version")
+    both_find(
+        &rt,
+        &"a byte more and no version",
+        &file,
+        0,
+        Some(TOO_LONG),
+        heap,
+    )
 }
 
 /// The longest records: 1 + 661 * 99 bytes are 65,440, and one of 96 fills the rest.
@@ -39,7 +46,7 @@ fn a_file_of_long_records(rt: HostRuntime) -> Result<(), Fail> {
     assert_eq!(rt; file.len(), 65_440);
     put_record(&mut file, 1, &[7; 32], &[b'!'; 61])?;
     assert_eq!(rt; file.len(), 65_536);
-    both_find(&rt, &file, 662, None, heap)?;
+    both_find(&rt, &"long records", &file, 662, None, heap)?;
     file.push(b'!')?;
-    both_find(&rt, &file, 0, Some(TOO_LONG), heap).note("a byte more")
+    both_find(&rt, &"a byte more", &file, 0, Some(TOO_LONG), heap)
 }

@@ -6,7 +6,8 @@ use super::slips::Slips;
 use super::tried::{BLOCK_CENTS, answer_of, seen_at, statement_of};
 use book::Book;
 use std::alloc::{AllocError, Global};
-use std::test::*;
+use std::fmt::Display;
+use std::process::Abort;
 
 #[derive(Drop)]
 pub struct Pair {
@@ -28,79 +29,83 @@ impl Pair {
     }
 
     /// Makes a call on both, which answer alike and then stand alike.
-    pub(crate) fn call(&mut self, call: Call) -> Result<Answer, Fail> {
-        let answer = self.answer(call)?;
-        self.look_at_all().note(format_args!("after {call:?}"))?;
-        Ok(answer)
+    pub(crate) fn call(&mut self, rt: &impl Abort, what: &impl Display, call: Call) -> Answer {
+        let answer = self.answer(rt, what, call);
+        self.look_at_all(rt, &format_args!("{what}, after {call:?}"));
+        answer
     }
 
     /// Makes a call on both, which answer alike.
-    pub(crate) fn answer(&mut self, call: Call) -> Result<Answer, Fail> {
+    pub(crate) fn answer(&mut self, rt: &impl Abort, what: &impl Display, call: Call) -> Answer {
         let answer = self.second.answer(&mut self.shelves.plain, call);
         let told = answer_of(&mut self.book, &mut self.shelves, &mut self.slips, call);
-        assert_eq!(told, answer, "{call:?}");
-        Ok(answer)
+        assert_eq!(rt; told, answer, "{what}, {call:?}");
+        answer
     }
 
     /// Makes calls, each with the answer that both have to give.
-    pub(crate) fn expect(&mut self, calls: &[(Call, Answer)]) -> Result<(), Fail> {
+    pub(crate) fn expect(
+        &mut self,
+        rt: &impl Abort,
+        what: &impl Display,
+        calls: &[(Call, Answer)],
+    ) {
         for (i, (call, expected)) in calls.iter().enumerate() {
-            self.expect_one(*call, *expected)
-                .note(format_args!("call {i}"))?;
+            self.expect_at(rt, &format_args!("{what}, call {i}"), *call, *expected);
         }
-        Ok(())
     }
 
-    pub(crate) fn expect_one(&mut self, call: Call, expected: Answer) -> Result<(), Fail> {
-        assert_eq!(self.call(call)?, expected, "{call:?}");
-        Ok(())
+    pub(crate) fn expect_one(&mut self, rt: &impl Abort, call: Call, expected: Answer) {
+        self.expect_at(rt, &"one call", call, expected);
+    }
+
+    fn expect_at(&mut self, rt: &impl Abort, what: &impl Display, call: Call, expected: Answer) {
+        assert_eq!(rt; self.call(rt, what, call), expected, "{what}, {call:?}");
     }
 
     /// The statements of all accounts, the notices and the shelves are alike; 64 and 255 are no accounts.
-    pub(crate) fn look_at_all(&self) -> Result<(), Fail> {
+    pub(crate) fn look_at_all(&self, rt: &impl Abort, what: &impl Display) {
         for account in 0..65 {
-            self.look_at(account)?;
+            self.look_at(rt, what, account);
         }
-        self.look_at(255)?;
-        assert_eq!(
+        self.look_at(rt, what, 255);
+        assert_eq!(rt;
             self.book.notice_word(),
             self.second.notice_word(),
-            "notices"
+            "{what}, notices"
         );
-        self.look_at_shelves()
+        self.look_at_shelves(rt, what);
     }
 
     /// The statements of an account are alike.
-    pub(crate) fn look_at(&self, account: u8) -> Result<(), Fail> {
+    pub(crate) fn look_at(&self, rt: &impl Abort, what: &impl Display, account: u8) {
         let told = statement_of(
             &self.book,
             &self.shelves.guarantees,
             &self.shelves.bonds,
             account,
         );
-        assert_eq!(
+        assert_eq!(rt;
             told,
             self.second.statement(&self.shelves.plain, account),
-            "statement of {account}"
+            "{what}, statement of {account}"
         );
-        Ok(())
     }
 
     /// What stands on the shelves is alike, place by place; 128 is no place.
-    pub(crate) fn look_at_shelves(&self) -> Result<(), Fail> {
+    fn look_at_shelves(&self, rt: &impl Abort, what: &impl Display) {
         let shelves = &self.shelves;
         for place in 0..129 {
-            assert_eq!(
+            assert_eq!(rt;
                 seen_at(&shelves.guarantees, place),
                 shelves.plain.seen_at(0, place, 100_000),
-                "place {place} of the guarantees"
+                "{what}, place {place} of the guarantees"
             );
-            assert_eq!(
+            assert_eq!(rt;
                 seen_at(&shelves.bonds, place),
                 shelves.plain.seen_at(1, place, u64::from(BLOCK_CENTS)),
-                "place {place} of the bonds"
+                "{what}, place {place} of the bonds"
             );
         }
-        Ok(())
     }
 }

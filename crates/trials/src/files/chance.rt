@@ -3,7 +3,7 @@ use super::agree::{both_find, reader_finds};
 use super::made::{KINDS, put_record};
 use super::outline::Found;
 use super::second::second_reading;
-use dice::Dice;
+use crate::dice::Dice;
 use std::alloc::{AllocError, Global};
 use std::test::Fail;
 
@@ -132,7 +132,7 @@ fn both_agree_on_files_made_by_chance(rt: HostRuntime) -> Result<(), Fail> {
     for round in 0..5_000 {
         let file = file_of(round, &mut dice, heap)?;
         let found = second_reading(&file, heap)?;
-        reader_finds(&rt, &found, &file, heap).note(format_args!("file {round}"))?;
+        reader_finds(&rt, &format_args!("file {round}"), &found, &file, heap)?;
         tally.count(&found);
     }
     assert!(rt; tally.good >= 500, "too few good files");
@@ -150,7 +150,14 @@ fn good_files_are_read_whole(rt: HostRuntime) -> Result<(), Fail> {
     for round in 0..500 {
         let records = dice.index_below(100);
         let file = good_file(&mut dice, records, heap)?;
-        both_find(&rt, &file, records, None, heap).note(format_args!("file {round}"))?;
+        both_find(
+            &rt,
+            &format_args!("file {round}"),
+            &file,
+            records,
+            None,
+            heap,
+        )?;
     }
     Ok(())
 }

@@ -1,6 +1,3 @@
-//! Numbers for trials. Everything here is for tests.
-#![tactic(auto)]
-
 /// Numbers as if by chance: the same in every run.
 #[derive(Drop)]
 pub struct Dice {
@@ -8,7 +5,7 @@ pub struct Dice {
 }
 
 impl Dice {
-    pub fn new(seed: u64) -> Dice {
+    pub(crate) fn new(seed: u64) -> Dice {
         Dice { state: seed }
     }
 
@@ -22,17 +19,17 @@ impl Dice {
     }
 
     /// A number below the bound, or 0 where there is none.
-    pub fn below(&mut self, bound: u64) -> u64 {
+    pub(crate) fn below(&mut self, bound: u64) -> u64 {
         self.roll().checked_rem(bound).unwrap_or(0)
     }
 
     /// Whether one chance out of so many came up.
-    pub fn one_in(&mut self, chances: u64) -> bool {
+    pub(crate) fn one_in(&mut self, chances: u64) -> bool {
         self.below(chances) == 0
     }
 
     /// A number from `low` to `high`, often near one of them, and now and then just outside.
-    pub fn near(&mut self, low: u64, high: u64) -> u64 {
+    pub(crate) fn near(&mut self, low: u64, high: u64) -> u64 {
         let wide = high.saturating_sub(low).saturating_add(1);
         match self.below(32) {
             0 => low.saturating_sub(1),
@@ -46,12 +43,12 @@ impl Dice {
     }
 
     /// The same for a place of a list.
-    pub fn index_below(&mut self, bound: usize) -> usize {
+    pub(crate) fn index_below(&mut self, bound: usize) -> usize {
         self.below(bound as u64) as usize
     }
 
     /// A byte below the bound, which is at most 256.
-    pub fn byte_below(&mut self, bound: u64) -> u8 {
+    pub(crate) fn byte_below(&mut self, bound: u64) -> u8 {
         (self.below(bound) & 0xff) as u8
     }
 }

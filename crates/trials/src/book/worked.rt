@@ -6,8 +6,9 @@ use super::limits::{nearly_fill, opened};
 use super::pair::Pair;
 use super::shelves::Shelves;
 use super::tried::statement_of;
+use std::fmt::Display;
 use std::process::Abort;
-use std::test::*;
+use std::test::Fail;
 
 /// A statement of an account that owes nothing, so that target and floor are the same.
 fn told(
@@ -30,20 +31,23 @@ fn told(
 }
 
 /// Both tell this of an account.
-fn tells(
+fn tells(rt: &impl Abort, pair: &Pair, account: u8, expected: Result<Stated, u8>) {
+    tells_with(rt, &"worked by hand", pair, account, expected);
+}
+
+fn tells_with(
     rt: &impl Abort,
+    what: &impl Display,
     pair: &Pair,
     account: u8,
     expected: Result<Stated, u8>,
-) -> Result<(), Fail> {
-    pair.look_at(account)?;
+) {
+    pair.look_at(rt, what, account);
     assert_eq!(rt;
         pair.second.statement(&pair.shelves.plain, account),
         expected,
-        "{}",
-        account
+        "{what}, account {account}"
     );
-    Ok(())
 }
 
 /// The prices of their securities are 1, 5,000, 12,345 and 1,000,000 cents.
@@ -81,46 +85,47 @@ fn lodge(shelves: &mut Shelves) {
 /// account 4 a guarantee of 900,000 cents and two bonds, 9,000,000 and 90,000,000,000 cents; of the others nothing.
 #[test]
 fn pledges_of_an_account_that_have_not_expired(rt: HostRuntime) -> Result<(), Fail> {
-    let mut pair = opened(rt.alloc())?;
-    pair.expect(&ACCOUNTS)?;
+    let mut pair = opened(&rt, rt.alloc())?;
+    pair.expect(&rt, &"accounts", &ACCOUNTS);
     tells(
         &rt,
         &pair,
         3,
         told(10, 123_456, 123_456, 60_000_000, -59_876_544),
-    )?;
+    );
     lodge(&mut pair.shelves);
-    tells(&rt, &pair, 0, told(0, 0, 0, 0, 0))?;
+    tells(&rt, &pair, 0, told(0, 0, 0, 0, 0));
     tells(
         &rt,
         &pair,
         3,
         told(10, 123_456, 100_018_623_456, 60_000_000, 99_958_623_456),
-    )?;
+    );
     tells(
         &rt,
         &pair,
         4,
         told(1_000, 0, 90_009_900_000, 14_814_000_000, 75_195_900_000),
-    )?;
-    tells(&rt, &pair, 63, told(1, 1, 1, 1_200_000_000, -1_199_999_999))?;
-    tells(&rt, &pair, 9, Err(5))?;
-    tells(&rt, &pair, 67, Err(1))?;
+    );
+    tells(&rt, &pair, 63, told(1, 1, 1, 1_200_000_000, -1_199_999_999));
+    tells(&rt, &pair, 9, Err(5));
+    tells(&rt, &pair, 67, Err(1));
     // Headroom comes to nothing, from one cent below to one above.
-    pair.expect_one(Apply(0, 1), Number(1))?;
-    pair.expect_one(Deposit(0, 1_199), Number(1_199))?;
-    tells(&rt, &pair, 0, told(1, 1_199, 1_199, 1_200, -1))?;
-    pair.expect_one(Deposit(0, 1), Number(1_200))?;
-    tells(&rt, &pair, 0, told(1, 1_200, 1_200, 1_200, 0))?;
-    pair.expect_one(Deposit(0, 1), Number(1_201))?;
-    tells(&rt, &pair, 0, told(1, 1_201, 1_201, 1_200, 1))
+    pair.expect_one(&rt, Apply(0, 1), Number(1));
+    pair.expect_one(&rt, Deposit(0, 1_199), Number(1_199));
+    tells(&rt, &pair, 0, told(1, 1_199, 1_199, 1_200, -1));
+    pair.expect_one(&rt, Deposit(0, 1), Number(1_200));
+    tells(&rt, &pair, 0, told(1, 1_200, 1_200, 1_200, 0));
+    pair.expect_one(&rt, Deposit(0, 1), Number(1_201));
+    tells(&rt, &pair, 0, told(1, 1_201, 1_201, 1_200, 1));
+    Ok(())
 }
 
 /// Either kind may stand on either shelf.
 #[test]
 fn kinds_on_either_shelf(rt: HostRuntime) -> Result<(), Fail> {
-    let mut pair = opened(rt.alloc())?;
-    pair.expect(&ACCOUNTS)?;
+    let mut pair = opened(&rt, rt.alloc())?;
+    pair.expect(&rt, &"accounts", &ACCOUNTS);
     lodge(&mut pair.shelves);
     let guarantees = &pair.shelves.guarantees;
     let bonds = &pair.shelves.bonds;
@@ -146,13 +151,18 @@ fn kinds_on_either_shelf(rt: HostRuntime) -> Result<(), Fail> {
 /// blocks are 11,520,000,000,000.
 #[test]
 fn the_highest_cover(rt: HostRuntime) -> Result<(), Fail> {
-    let mut pair = opened(rt.alloc())?;
-    pair.expect(&[(Enrol(7, 9_999, 7), Done), (Apply(7, 1_000), Number(1_000))])?;
-    nearly_fill(&mut pair)?;
+    let mut pair = opened(&rt, rt.alloc())?;
+    pair.expect(
+        &rt,
+        &"account",
+        &[(Enrol(7, 9_999, 7), Done), (Apply(7, 1_000), Number(1_000))],
+    );
+    nearly_fill(&rt, &mut pair);
     pair.expect_one(
+        &rt,
         Deposit(7, 10_000_000_000_000),
         Number(1_000_000_000_000_000),
-    )?;
+    );
     for place in 0..128 {
         pair.shelves.put_guarantee(place, 7, 1_000_000, 2);
         pair.shelves.put_bond(place, 7, 10_000, 2);
@@ -164,15 +174,16 @@ fn the_highest_cover(rt: HostRuntime) -> Result<(), Fail> {
         1_200_000_000_000,
         1_023_120_000_000_000,
     );
-    tells(&rt, &pair, 7, highest)
+    tells(&rt, &pair, 7, highest);
+    Ok(())
 }
 
 /// A shelf has 128 places: with any other number there is no statement, whether or not the account place is empty.
 #[test]
 fn places_of_a_shelf(rt: HostRuntime) -> Result<(), Fail> {
     let heap = rt.alloc();
-    let mut pair = opened(heap)?;
-    pair.expect(&ACCOUNTS)?;
+    let mut pair = opened(&rt, heap)?;
+    pair.expect(&rt, &"accounts", &ACCOUNTS);
     for (first, second) in [
         (127, 128),
         (128, 127),
@@ -184,7 +195,13 @@ fn places_of_a_shelf(rt: HostRuntime) -> Result<(), Fail> {
     ] {
         pair.shelves = Shelves::empty(first, second, heap)?;
         for account in [3, 9, 64] {
-            tells(&rt, &pair, account, Err(1)).note(format_args!("{first} and {second} places"))?;
+            tells_with(
+                &rt,
+                &format_args!("{first} and {second} places"),
+                &pair,
+                account,
+                Err(1),
+            );
         }
     }
     pair.shelves = Shelves::empty(128, 128, heap)?;
@@ -193,10 +210,11 @@ fn places_of_a_shelf(rt: HostRuntime) -> Result<(), Fail> {
         &pair,
         3,
         told(10, 123_456, 123_456, 60_000_000, -59_876_544),
-    )?;
-    tells(&rt, &pair, 9, Err(5))?;
-    tells(&rt, &pair, 64, Err(1))?;
-    tells(&rt, &pair, 255, Err(1))
+    );
+    tells(&rt, &pair, 9, Err(5));
+    tells(&rt, &pair, 64, Err(1));
+    tells(&rt, &pair, 255, Err(1));
+    Ok(())
 }
 
 /// Before the first day every account place is empty.
@@ -205,8 +223,9 @@ fn statements_of_a_blank_book(rt: HostRuntime) -> Result<(), Fail> {
     let heap = rt.alloc();
     let mut pair = Pair::new(heap)?;
     lodge(&mut pair.shelves);
-    tells(&rt, &pair, 3, Err(5))?;
-    tells(&rt, &pair, 64, Err(1))?;
+    tells(&rt, &pair, 3, Err(5));
+    tells(&rt, &pair, 64, Err(1));
     pair.shelves = Shelves::empty(128, 127, heap)?;
-    tells(&rt, &pair, 3, Err(1))
+    tells(&rt, &pair, 3, Err(1));
+    Ok(())
 }

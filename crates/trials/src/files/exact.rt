@@ -150,6 +150,12 @@ fn each_field_has_its_value(rt: HostRuntime) -> Result<(), Fail> {
         records,
         fault: None,
     };
-    reader_finds(&rt, &expected, &file, heap)?;
-    same(&rt, &second_reading(&file, heap)?, &expected).note("second reader")
+    reader_finds(&rt, &"reader", &expected, &file, heap)?;
+    same(
+        &rt,
+        &"second reader",
+        &second_reading(&file, heap)?,
+        &expected,
+    );
+    Ok(())
 }

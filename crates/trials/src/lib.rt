@@ -1,0 +1,9 @@
+//! Trials. Everything here is for tests.
+#![tactic(auto)]
+
+#[cfg(test)]
+mod book;
+#[cfg(test)]
+mod dice;
+#[cfg(test)]
+mod files;
