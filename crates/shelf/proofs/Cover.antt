@@ -1,5 +1,6 @@
 -- Sums over an account's pledges on a shelf: one place more, how large they can be, and that empty places add nothing.
-use Rattle.std.proofs.Common.{◌≡◌, ℕ, ◌+◌, ◌*◌, ◌<◌, ◌≤◌, eqb, List, length, get_or, set, Some, None, Option, refl, ap, subst, arith, length-set, get_or-set_other, get_or-set_same}
+use Rattle.std.proofs.Common.{◌≡◌, ℕ, ◌+◌, ◌*◌, ◌<◌, ◌≤◌, eqb, List, length, get_or, replicate, set, Some, None, Option, refl, ap, subst, arith, length-set, get_or-set_other, get_or-set_same}
+use lib.ListN.{length-replicate, get_or-replicate}
 use Rattle.std.proofs.lemmas.List.{get_or_read}
 use Rattle.std.proofs.lemmas.Bool.{cond_both, cond-true, eq-eqb}
 use Rattle.pledge.specs.Limits.{top_cents}
@@ -10,7 +11,7 @@ use Rattle.shelf.specs.declared.held.Held.{Held}
 use Rattle.shelf.specs.declared.lodging.Lodging.{Lodging}
 use Rattle.shelf.specs.Lodgings.{lodging}
 use Rattle.sums.specs.Below.{below}
-use Rattle.sums.proofs.Sums.{below_more, below_most, below_changed}
+use Rattle.sums.proofs.Sums.{below_more, below_none, below_most, below_changed}
 
 -- f of one place is at most what f is of any pledge
 pub counted_most : {P : Type 0} (account : ℕ) (f : P → ℕ) (place : Option (Held P)) (most : ℕ) →
@@ -28,6 +29,16 @@ module _ {P : Type 0} (account : ℕ) (f : P → ℕ) (shelf : List (Option (Hel
       let here = ap (counted account f) (get_or_read shelf i place within is None) in
       omega (arith, below_more i (λ k. counted account f (at shelf k)))
 
+  pub over_most : (most : ℕ) → ((p : P) → f p ≤ most) → over account f shelf ≤ length shelf * most
+  over_most most h =
+      below_most (length shelf) most (λ k. counted account f (at shelf k))
+      (λ k _. counted_most account f (at shelf k) most h)
+
+  pub over_empty : ((k : ℕ) → k < length shelf → at shelf k ≡ None) → over account f shelf ≡ 0
+  over_empty empty =
+      below_none (length shelf) (λ k. counted account f (at shelf k))
+      (λ k within. ap (counted account f) (empty k within))
+
 -- i places cover at most i times the most of a pledge
 pub below_most_cover : {P : Type 0} (n : Numbers P) → Rules n → (shelf : List (Option (Held P))) (account day i : ℕ) →
     below i (λ k. counted account (λ p. n.cover p day) (at shelf k)) ≤ i * top_cents
@@ -40,6 +51,18 @@ pub cover_most : {P : Type 0} (n : Numbers P) → Rules n → (shelf : List (Opt
     length shelf ≤ shelf_places → cover_of n shelf account day ≤ top_cover
 cover_most n rules shelf account day within =
     omega (arith, below_most_cover n rules shelf account day (length shelf))
+
+-- a shelf of empty places covers nothing
+pub cover_empty : {P : Type 0} (n : Numbers P) (shelf : List (Option (Held P))) (account day : ℕ) →
+    ((k : ℕ) → k < length shelf → at shelf k ≡ None) → cover_of n shelf account day ≡ 0
+cover_empty n shelf account day empty = over_empty account (λ p. n.cover p day) shelf empty
+
+-- nor does a new shelf
+pub cover_new : {P : Type 0} (n : Numbers P) (places account day : ℕ) → cover_of n (replicate places None) account day ≡ 0
+cover_new {P} n places account day =
+    let none : Option (Held P) = None in
+    cover_empty n (replicate places none) account day
+    (λ k within. get_or-replicate places k none none (omega (arith, length-replicate places none)))
 
 -- a sum over an account's pledges after a write to one place
 pub over_put : {P : Type 0} (account : ℕ) (f : P → ℕ) (shelf : List (Option (Held P))) (i : ℕ) (o : Option (Held P)) → i < length shelf →
