@@ -1,41 +1,10 @@
-// What pledges cover: those of one account, and those of all accounts at once.
+// What the pledges of all accounts cover at once.
 ghost use Rattle.std.specs.Prelude.{◌≡◌, ℕ, ◌+◌, ◌<◌, ◌≤◌, length, slice_index};
-ghost use Rattle.pledge.specs.Limits.{top_cents};
 ghost use Rattle.shelf.specs.Limits.{shelf_places, top_cover};
 ghost use Rattle.shelf.specs.Places.{counted, cover_of};
 
 use crate::held::Held;
 use pledge::Pledge;
-
-/// The cents that the account's pledges on the shelf cover on a day.
-pub fn cover_of<P: Pledge>(shelf: &[Option<Held<P>>], account: u8, day: u16) -> u64
-    requires { length shelf.now ≤ shelf_places }
-    ensures value { result ≡ cover_of P.numbers shelf.now account day }
-    ensures most { result ≤ top_cover }
-{
-    let mut sum = 0;
-    for place in shelf {
-        sum += cover_at(place, account, day);
-    }
-    sum
-}
-
-/// What one place adds to the account's cover: its pledge's cover if that backs the account, and else nothing.
-fn cover_at<P: Pledge>(place: &Option<Held<P>>, account: u8, day: u16) -> u64
-    ensures value { result ≡ counted account (λ p. P.numbers.cover p day) place.now }
-    ensures most { result ≤ top_cents }
-{
-    match place {
-        Some(held) => {
-            if held.account == account {
-                held.pledge.cover(day)
-            } else {
-                0
-            }
-        }
-        None => 0,
-    }
-}
 
 /// Adds to the sum of each account what its pledges on the shelf cover on a day, in one pass over the shelf. The sums are by
 /// account place; what backs no place among them is passed over.

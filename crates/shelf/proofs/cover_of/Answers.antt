@@ -2,7 +2,7 @@ use Rattle.std.proofs.Common.{◌≡◌, length, ap, ◌∙◌, arith}
 use Rattle.sums.specs.Below.{below}
 use Rattle.shelf.specs.Places.{at, counted}
 use Rattle.shelf.proofs.Cover.{one_more_place}
-use Rattle.shelf.proofs.covers.cover_of.Goals as goal
+use Rattle.shelf.proofs.cover_of.Goals as goal
 
 pub loop-place-preserved : goal.loop-place-preserved
 loop-place-preserved g c =

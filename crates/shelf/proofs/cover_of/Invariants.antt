@@ -2,7 +2,7 @@ use Rattle.std.proofs.Common.{◌≡◌, ◌*◌, ◌≤◌}
 use Rattle.pledge.specs.Limits.{top_cents}
 use Rattle.sums.specs.Below.{below}
 use Rattle.shelf.specs.Places.{at, counted}
-use Rattle.shelf.proofs.covers.cover_of.Given as goal
+use Rattle.shelf.proofs.cover_of.Given as goal
 
 abbrev pub invariant-loop-place : goal.invariant-loop-place
 invariant-loop-place g l =
