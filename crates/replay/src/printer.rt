@@ -1,10 +1,11 @@
 // What is printed: a line for each record, one for a fault, and one with the number of records.
-ghost use Rattle.std.specs.Prelude.{◌≡◌, ◌+◌, ◌-◌, ◌^◌, ◌<◌};
+ghost use Rattle.std.specs.Prelude.{◌≡◌, ◌+◌, ◌-◌, ◌^◌, ◌<◌, IfErr};
+ghost use Rattle.std.specs.IoError.{error_kind};
 
 use super::fields::print_fields;
 use dayfile::{Fault, Layer, Record, Sink};
 use std::io;
-use std::io::{BufWriter, Stdout, Write};
+use std::io::{BufWriter, ErrorKind, Stdout, Write};
 
 /// A sink that prints the records. The first failure to print is kept, and nothing is printed after it.
 #[derive(Drop)]
@@ -15,7 +16,10 @@ pub struct Printer {
 }
 
 impl Printer {
-    pub fn new(rt: &HostRuntime) -> io::Result<Printer> {
+    /// Fails only where there is no memory for what is printed.
+    pub fn new(rt: &HostRuntime) -> io::Result<Printer>
+        ensures { IfErr result (λ e. error_kind e ≡ ErrorKind.OutOfMemory) }
+    {
         Ok(Printer {
             out: BufWriter::new(rt.alloc(), rt.stdout())?,
             records: 0,
