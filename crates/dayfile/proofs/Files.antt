@@ -12,7 +12,7 @@ use Rattle.dayfile.specs.Outcome.{Reading, read_record}
 use Rattle.dayfile.specs.Seen.{seen, reading, Stands}
 use Rattle.dayfile.specs.File.{Ending, complete, stopped, Holds, at_end, at_fault, at_record, Means, is_too_long, has_no_version, has_version, Begins, Fed, none, more}
 
-pub no_version : (bs : List ℕ) → length bs ≡ 0 → byte bs 0 ≡ 1 → ⊥
+no_version : (bs : List ℕ) → length bs ≡ 0 → byte bs 0 ≡ 1 → ⊥
 no_version [] h e = omega arith
 no_version (x ∷ xs) h e = omega arith
 

@@ -1,7 +1,7 @@
 //! Guarantees: a draw takes from the amount not yet drawn.
 ghost use Rattle.std.specs.Prelude.{◌≡◌, ◌≤◌};
 ghost use Rattle.kinds.specs.Guarantees.{Issued, guaranteed, less};
-ghost use Rattle.std.proofs.Common.{rules, arith};
+ghost use Rattle.std.proofs.Common.{rules};
 
 use crate::guarantee::Guarantee;
 use pledge::{BlockPrice, Pledge};
@@ -39,7 +39,7 @@ impl Guarantee {
 impl Pledge for Guarantee {
     ghost numbers = { guaranteed };
 
-    ghost rules = { first_of (Prim.search rules, Prim.grind (arith, Self.row.coded.inj)) };
+    ghost rules = { Prim.search rules };
 
     fn expiry(&self) -> u16 {
         self.expiry
