@@ -2,7 +2,7 @@
 #![tactic(auto)]
 
 #[cfg(test)]
-mod book;
+mod books;
 #[cfg(test)]
 mod dice;
 #[cfg(test)]

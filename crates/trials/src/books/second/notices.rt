@@ -1,7 +1,7 @@
 // Notices, and the slips that hold them.
 use super::{Hour, Row, Second, first_of};
-use crate::book::call::Answer;
-use crate::book::plain::Plain;
+use crate::books::call::Answer;
+use crate::books::plain::Plain;
 
 impl Second {
     pub(super) fn ten(&mut self, plain: &Plain) -> Answer {

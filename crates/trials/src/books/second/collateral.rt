@@ -1,7 +1,7 @@
 // Pledges taken onto the shelves and handed back.
 use super::{Hour, Second, first_of};
-use crate::book::call::Answer;
-use crate::book::plain::{Lodged, NOTHING, Plain};
+use crate::books::call::Answer;
+use crate::books::plain::{Lodged, NOTHING, Plain};
 
 impl Second {
     pub(super) fn pledge(&self, plain: &mut Plain, shelf: u8, place: u8, lodged: Lodged) -> Answer {
