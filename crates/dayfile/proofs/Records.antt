@@ -11,5 +11,5 @@ there bs p h two all = cond-false _ _ _ (lt-leb _ _ h) ∙ cond-true _ _ _ (le-l
 pub there_at : (bs : List ℕ) (p : ℕ) (f : List ℕ) (n i : ℕ) (b : List ℕ) (o : Outcome) → f ≡ bs → n ≡ be16 bs p → i ≡ p + 2 → p < length bs → p + 2 ≤ length bs → i + n ≤ length f → b ≡ part f i n → o ≡ read_body b p → o ≡ read_record bs p
 there_at bs p f n i b o same is two h w all bytes e =
     let fits : p + 2 + be16 bs p ≤ length bs = rw (same, is, two) at all in
-    let same-part : part f i n ≡ part bs (p + 2) (be16 bs p) = rw (same, is, two) in
-    e ∙ ap (λ x. read_body x p) (bytes ∙ same-part) ∙ sym (there bs p h w fits)
+    let same_part : part f i n ≡ part bs (p + 2) (be16 bs p) = rw (same, is, two) in
+    e ∙ ap (λ x. read_body x p) (bytes ∙ same_part) ∙ sym (there bs p h w fits)

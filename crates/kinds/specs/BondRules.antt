@@ -49,8 +49,8 @@ drawn b ask day price h =
     record {
       none = λ e.
           let nothing : reach ask price ≡ 0 = subst (λ (x : ℕ). reach x price ≡ 0) (sym e) (reach_none price) in
-          let none-sold : n ≡ 0 = omega arith in
-          ap (λ x. x * price) none-sold ∙ zero-mul price;
+          let none_sold : n ≡ 0 = omega arith in
+          ap (λ x. x * price) none_sold ∙ zero-mul price;
       near = λ _. omega (arith, reach_near ask price h.low);
       most = mul-le-mul_right price (omega arith);
       least = min_mul (reach ask price) all price (λ y. min ask (all * price) ≤ y)
