@@ -7,7 +7,7 @@ use Rattle.lending.specs.declared.account.Account.{Account}
 use Rattle.table.specs.declared.refusal.Refusal.{Refusal}
 use Rattle.table.specs.declared.refusal.Refusal.TheVariants.{NoSuchPlace, PlaceEmpty}
 use Rattle.table.specs.declared.table.Table.{Table}
-use Rattle.table.specs.Act.{Answered, first as first-cause}
+use Rattle.table.specs.Act.{Answered, first as first_cause}
 use Rattle.table.specs.Tables.{account_at, taken}
 use Rattle.lending.specs.Sound.{account_places}
 use Rattle.table.specs.Accounts.{owed_of, applied_of, barred_of, balance_of}
@@ -44,7 +44,7 @@ pledged_on n m t first second account = cover_of n first account t.day + cover_o
 -- the answer to the question: the statement, or why there is none
 abbrev pub Stated : {P Q : Type 0} → Numbers P → Numbers Q → Table → List (Option (Held P)) → List (Option (Held Q)) → ℕ → Result Statement Refusal → Type 0
 Stated n m t first second account =
-    Answered (first-cause (statement_causes t (length first) (length second) account)) (statement_of t account (pledged_on n m t first second account))
+    Answered (first_cause (statement_causes t (length first) (length second) account)) (statement_of t account (pledged_on n m t first second account))
 
 -- the account at a place, or why there is nothing to tell
 abbrev pub Found : Option Refusal → Option Account → Result Account Refusal → Type 0

@@ -14,7 +14,7 @@ use Rattle.margin.specs.Notices.{ten_act}
 use Rattle.book.specs.declared.examined.Examined.{Examined}
 use Rattle.book.specs.declared.examined.Examined.TheVariants.{Met, Short}
 use Rattle.book.specs.Examinations.{Examination}
-use Rattle.figures.specs.Books.{TenOwed, lack_found}
+use Rattle.figures.specs.Notices.{TenOwed, lack_found}
 
 module _ (t : Table) (place : ℕ) (a : Account) (o : TenOwed t place a) where
   ten_units : units_of (account_at t place) ≡ 10

@@ -1,20 +1,13 @@
--- Worked figures of the book: what its statement tells, which rate stands, and who gets a notice.
-use Rattle.std.specs.Prelude.{◌≡◌, ℕ, ◌<◌, ◌≤◌, true, false, ℤ, pos, Some, None, Ok, Option}
-use Rattle.bits.specs.Bit.{bit}
+-- Worked figures of the book: what its statement tells, and which rate stands.
+use Rattle.std.specs.Prelude.{◌≡◌, ℕ, ◌<◌, ◌≤◌, true, Some, None}
 use Rattle.lending.specs.declared.account.Account.{Account}
 use Rattle.lending.specs.Measures.{top_units}
-use Rattle.lending.specs.Sound.{securities, top_commission, account_places, offer_places}
+use Rattle.lending.specs.Sound.{securities, top_commission, offer_places}
 use Rattle.table.specs.declared.refusal.Refusal.TheVariants.{RateTooHigh}
 use Rattle.table.specs.declared.table.Table.{Table}
 use Rattle.table.specs.Refusals.{naming}
-use Rattle.table.specs.Tables.{account_at, offer_at, price_at, morning}
+use Rattle.table.specs.Tables.{offer_at, price_at, morning}
 use Rattle.table.specs.Offers.{offer_act}
-use Rattle.margin.specs.Backing.{Backing}
-use Rattle.margin.specs.Margins.{cover_at}
-use Rattle.margin.specs.Notices.{ten_act}
-use Rattle.book.specs.declared.examined.Examined.{Examined}
-use Rattle.book.specs.declared.examined.Examined.TheVariants.{Met, Short}
-use Rattle.book.specs.Examinations.{Examination}
 use Rattle.book.specs.Statements.{stated}
 use Rattle.figures.specs.declared.books.BookFigures.{BookFigures}
 
@@ -23,20 +16,7 @@ abbrev pub price : ℕ
 price = 5000
 
 abbrev pub worked : BookFigures
-worked = record { floor = 60000000; target = 60000000; owed_floor = 107000000; owed_target = 114000000 }
-
--- ten units are owed, of a share that costs 100 dollars
-pub record TenOwed (t : Table) (place : ℕ) (a : Account) : Type 0 where
-  pub known : place < account_places
-  pub is : account_at t place ≡ Some a
-  pub owed : a.owed ≡ 10
-  pub applied : a.applied ≡ 0
-  pub priced : price_at t a.security ≡ 10000
-
--- the cents that an examination finds lacking, if the notice is not met
-abbrev pub lack_found : Examined → Option ℤ
-lack_found Met = None
-lack_found (Short lack slip) = Some lack
+worked = record { floor = 60000000; target = 60000000 }
 
 -- an offer to which nothing but its rate can be an obstacle
 pub record Offerable (t : Table) (place security units commission : ℕ) : Type 0 where
@@ -62,12 +42,3 @@ pub record BookFiguresHold : Type 0 where
   pub rate_refused : (t : Table) (place security units commission : ℕ) → Offerable t place security units commission →
       (offer_act place security units 351 commission).cause t ≡ Some RateTooHigh
   pub refused_by : (naming RateTooHigh).number ≡ 8
-  -- ten units owed, and cover at the floor: no notice at ten
-  pub no_notice : (t : Table) (b : Backing) (place : ℕ) (a : Account) → TenOwed t place a → cover_at b t place ≡ pos 107000000 →
-      bit ((ten_act b).done t).notices place ≡ false
-  -- one cent less: a notice
-  pub notice : (t : Table) (b : Backing) (place : ℕ) (a : Account) → TenOwed t place a → cover_at b t place ≡ pos 106999999 →
-      bit ((ten_act b).done t).notices place ≡ true
-  -- and an examination then finds 7,000,001 cents lacking
-  pub lacking : (t u : Table) (b : Backing) (place : ℕ) (a : Account) (found : Examined) → TenOwed t place a → cover_at b t place ≡ pos 106999999 →
-      Examination b place t u (Ok found) → lack_found found ≡ Some (pos 7000001)

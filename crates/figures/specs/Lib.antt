@@ -1,3 +1,4 @@
 pub mod Pledges
 pub mod Books
 pub mod Lendings
+pub mod Notices

@@ -4,7 +4,7 @@ ghost use Rattle.std.specs.Option.{option_map};
 ghost use Rattle.lending.specs.Measures.{top_units};
 ghost use Rattle.lending.specs.Sound.{account_places, lowest, top_balance, top_charges, top_cost, top_share_price};
 ghost use Rattle.shelf.specs.Limits.{top_cover};
-ghost use Rattle.table.specs.Act.{first as first-cause};
+ghost use Rattle.table.specs.Act.{first as first_cause};
 ghost use Rattle.table.specs.Limits.{last_day};
 ghost use Rattle.table.specs.Sound.{Begun, Sound};
 ghost use Rattle.margin.specs.BuyIns.{PurchaseFound, Settles, barred_at, bought_in, buy_in_causes, cost_at, passes, settled};
@@ -32,7 +32,7 @@ pub fn to_buy_in(
 ) -> Result<Purchase, Refusal>
     requires sound { Sound table.now }
     requires known { account < account_places }
-    ensures { PurchaseFound (first-cause (buy_in_causes first second account execution table.now)) table.now first second account execution result }
+    ensures { PurchaseFound (first_cause (buy_in_causes first second account execution table.now)) table.now first second account execution result }
 {
     if first != SHELF_PLACES || second != SHELF_PLACES {
         return Err(Refusal::NoSuchPlace);

@@ -3,7 +3,7 @@ ghost use Rattle.std.specs.Prelude.{◌≡◌, ℕ, ◌*◌, ◌<◌, ◌≤◌,
 ghost use Rattle.lending.specs.Sound.{SoundAccount, account_places};
 ghost use Rattle.shelf.specs.Limits.{top_cover, shelf_places};
 ghost use Rattle.table.specs.declared.hour.Hour.TheVariants.{Morning};
-ghost use Rattle.table.specs.Act.{Acted, Answered, Found, first as first-cause};
+ghost use Rattle.table.specs.Act.{Acted, Answered, Found, first as first_cause};
 ghost use Rattle.table.specs.Tables.{account_at, elevens};
 ghost use Rattle.table.specs.Sound.{Begun, Sound};
 ghost use Rattle.margin.specs.Margins.{Lacks, covered, short, target_on};
@@ -17,7 +17,7 @@ use table::{ACCOUNT_PLACES, Hour, Refusal, Table};
 
 /// Whether ten may be called, with shelves of so many places.
 pub fn to_ten(table: &Table, first: usize, second: usize) -> Result<(), Refusal>
-    ensures answer { Answered (first-cause (ten_causes first second table.now)) tt result }
+    ensures answer { Answered (first_cause (ten_causes first second table.now)) tt result }
     ensures known { OnOk result (Callable table.now first second) }
 {
     if first != SHELF_PLACES || second != SHELF_PLACES {
@@ -87,7 +87,7 @@ pub fn to_examine(
     account: u8,
 ) -> Result<Account, Refusal>
     requires { Sound table.now }
-    ensures found { Found (first-cause (examine_causes first second account table.now)) (account_at table.now account) result }
+    ensures found { Found (first_cause (examine_causes first second account table.now)) (account_at table.now account) result }
     ensures known { IfOk result (λ a. Examinable table.now account a × (first ≡ shelf_places) × (second ≡ shelf_places)) }
 {
     if first != SHELF_PLACES || second != SHELF_PLACES || account >= ACCOUNT_PLACES {

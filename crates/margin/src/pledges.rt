@@ -1,7 +1,7 @@
 // Whether a pledge may be taken onto a shelf, or handed back.
 ghost use Rattle.std.specs.Prelude.{◌≡◌, ◌*◌, ◌≤◌, IfOk, Some};
 ghost use Rattle.shelf.specs.Limits.{top_cover};
-ghost use Rattle.table.specs.Act.{Answered, Found, first as first-cause};
+ghost use Rattle.table.specs.Act.{Answered, Found, first as first_cause};
 ghost use Rattle.table.specs.Tables.{account_at, elevens};
 ghost use Rattle.table.specs.Sound.{Sound};
 ghost use Rattle.lending.specs.Sound.{SoundAccount};
@@ -30,7 +30,7 @@ pub fn to_pledge(
     expiry: u16,
 ) -> Result<Account, Refusal>
     requires { Sound table.now }
-    ensures found { Found (first-cause (pledge_causes table.now first second account place filled expiry)) (account_at table.now account) result }
+    ensures found { Found (first_cause (pledge_causes table.now first second account place filled expiry)) (account_at table.now account) result }
     ensures known { IfOk result (λ a. Pledgeable table.now first second place a) }
 {
     if first != SHELF_PLACES || second != SHELF_PLACES {
@@ -67,7 +67,7 @@ pub fn to_release(
     lodging: Option<Lodging>,
 ) -> Result<Backed, Refusal>
     requires { Sound table.now }
-    ensures found { BackingFound (first-cause (release_causes table.now first second shelf place lodging)) table.now lodging result }
+    ensures found { BackingFound (first_cause (release_causes table.now first second shelf place lodging)) table.now lodging result }
     ensures known { IfOk result (λ b. Releasable table.now first second shelf place b) }
 {
     if first != SHELF_PLACES || second != SHELF_PLACES {
@@ -108,7 +108,7 @@ pub fn cover_left(table: &Table, backed: Backed, pledged: u64) -> Result<i64, Re
     requires table { Sound table.now }
     requires account { SoundAccount (elevens table.now) backed.account }
     requires pledged { pledged ≤ 2 * top_cover }
-    ensures { Answered (first-cause (target_causes table.now (Some backed.account) backed.lodging.expiry (covered (Some backed.account) pledged))) (covered (Some backed.account) pledged) result }
+    ensures { Answered (first_cause (target_causes table.now (Some backed.account) backed.lodging.expiry (covered (Some backed.account) pledged))) (covered (Some backed.account) pledged) result }
 {
     let a = backed.account;
     let cover = cover(a.balance, pledged);

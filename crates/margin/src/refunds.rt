@@ -1,6 +1,6 @@
 // Paying an account out and closing it.
 ghost use Rattle.std.specs.Prelude.{◌≡◌, IfOk, None};
-ghost use Rattle.table.specs.Act.{Found, first as first-cause};
+ghost use Rattle.table.specs.Act.{Found, first as first_cause};
 ghost use Rattle.table.specs.Tables.{account_at, with_account};
 ghost use Rattle.table.specs.Sound.{Begun, Sound};
 ghost use Rattle.margin.specs.Refunds.{Refundable, cents_of, refund_causes};
@@ -17,7 +17,7 @@ pub fn to_refund(
     account: u8,
 ) -> Result<Account, Refusal>
     requires { Sound table.now }
-    ensures found { Found (first-cause (refund_causes first second account table.now)) (account_at table.now account) result }
+    ensures found { Found (first_cause (refund_causes first second account table.now)) (account_at table.now account) result }
     ensures known { IfOk result (λ a. Refundable table.now account a) }
 {
     if first != SHELF_PLACES || second != SHELF_PLACES || account >= ACCOUNT_PLACES {

@@ -2,7 +2,7 @@
 ghost use Rattle.std.specs.Prelude.{◌≡◌, ◌*◌, ◌<◌, ◌≤◌, length, set, is_some, IfOk, Some};
 ghost use Rattle.shelf.specs.Limits.{top_cover, shelf_places};
 ghost use Rattle.shelf.specs.Places.{at};
-ghost use Rattle.table.specs.Act.{Acted, first as first-cause};
+ghost use Rattle.table.specs.Act.{Acted, first as first_cause};
 ghost use Rattle.table.specs.Sound.{Sound};
 ghost use Rattle.table.specs.Tables.{account_at, elevens};
 ghost use Rattle.lending.specs.Sound.{SoundAccount};
@@ -95,7 +95,7 @@ fn take_in<P: Pledge>(
 ) -> Result<Account, Refusal>
     requires sound { Sound table.now }
     requires places { firsts ≡ shelf_places → seconds ≡ shelf_places → length shelf.old ≡ shelf_places }
-    ensures taken { TakenIn (first-cause (pledge_causes table.now firsts seconds account place (is_some (at shelf.old place)) (P.numbers.expiry pledge))) (account_at table.now account) shelf.old (set shelf.old place (Some (record { account = account; pledge = pledge }))) shelf.new result }
+    ensures taken { TakenIn (first_cause (pledge_causes table.now firsts seconds account place (is_some (at shelf.old place)) (P.numbers.expiry pledge))) (account_at table.now account) shelf.old (set shelf.old place (Some (record { account = account; pledge = pledge }))) shelf.new result }
     ensures known { IfOk result (λ a. Pledgeable table.now firsts seconds place a) }
 {
     let a = to_pledge(

@@ -2,7 +2,7 @@
 ghost use Rattle.std.specs.Prelude.{◌≡◌, ◌*◌, ◌≤◌, true, length, pos, ◌-ℤ◌, ◌≤ℤ◌, IfOk, Some};
 ghost use Rattle.lending.specs.Measures.{top_floor};
 ghost use Rattle.lending.specs.Sound.{SoundAccount, lowest};
-ghost use Rattle.table.specs.Act.{first as first-cause};
+ghost use Rattle.table.specs.Act.{first as first_cause};
 ghost use Rattle.table.specs.Limits.{last_day};
 ghost use Rattle.table.specs.Tables.{account_at, elevens};
 ghost use Rattle.shelf.specs.Limits.{top_cover, shelf_places};
@@ -40,7 +40,7 @@ impl Book {
 
     /// The account at a place, or why there is nothing to tell.
     fn account_to_state(&self, first: usize, second: usize, account: u8) -> Result<Account, Refusal>
-        ensures found { Found (first-cause (statement_causes self.now.table first second account)) (account_at self.now.table account) result }
+        ensures found { Found (first_cause (statement_causes self.now.table first second account)) (account_at self.now.table account) result }
         ensures sound { IfOk result (λ a. SoundAccount (elevens self.now.table) a × (first ≡ shelf_places) × (second ≡ shelf_places)) }
     {
         if first != SHELF_PLACES || second != SHELF_PLACES || account >= ACCOUNT_PLACES {

@@ -1,6 +1,4 @@
 use Rattle.std.proofs.Common.{refl, rules}
-use Rattle.figures.proofs.Lending.{earns}
-use Rattle.figures.proofs.Notices.{unnoticed, noticed, lacks}
 use Rattle.figures.proofs.Rates.{stands, refused}
 use Rattle.figures.proofs.books.book_figures.Goals as goal
 
@@ -13,17 +11,5 @@ returns c = record {
     rate_stands = stands;
     rate_refused = refused;
     refused_by = refl;
-    no_notice = unnoticed;
-    notice = noticed;
-    lacking = lacks;
-  };
-  lending = record {
-    all_earn = earns;
-    first_gives = refl;
-    lender_earns = refl;
-    broker_earns = refl;
-    first_pays = refl;
-    second_pays = refl;
-    third_pays = refl;
   };
 }
