@@ -26,11 +26,10 @@ pub fn cover_of<P: Pledge>(shelf: &[Option<Held<P>>], account: u8, day: u16) -> 
     ensures value { result ≡ cover_of P.numbers shelf.now account day }
     ensures most { result ≤ top_cover }
 {
-    let mut sum = 0;
-    for place in shelf {
-        sum += cover_at(place, account, day);
-    }
-    sum
+    shelf
+        .iter()
+        .map(|place| cover_at(place, account, day))
+        .sum()
 }
 
 /// What one place adds to the account's cover: its pledge's cover if that backs the account, and else nothing.
@@ -39,13 +38,7 @@ fn cover_at<P: Pledge>(place: &Option<Held<P>>, account: u8, day: u16) -> u64
     ensures most { result ≤ top_cents }
 {
     match place {
-        Some(held) => {
-            if held.account == account {
-                held.pledge.cover(day)
-            } else {
-                0
-            }
-        }
-        None => 0,
+        Some(held) if held.account == account => held.pledge.cover(day),
+        _ => 0,
     }
 }

@@ -11,30 +11,19 @@ use pledge::Pledge;
 pub fn is_taken<P>(shelf: &[Option<Held<P>>], place: u8) -> bool
     ensures { result ≡ is_some (at shelf.now place) }
 {
-    if place as usize >= shelf.len() {
-        return false;
-    }
-    match &shelf[place as usize] {
-        Some(_) => true,
-        None => false,
-    }
+    matches!(shelf.get(place as usize), Some(Some(_)))
 }
 
 /// What is lodged in a place, with its cover on a day; past the end of the shelf nothing is.
 pub fn lodged<P: Pledge>(shelf: &[Option<Held<P>>], place: u8, day: u16) -> Option<Lodging>
     ensures { result ≡ lodging P.numbers day (at shelf.now place) }
 {
-    if place as usize >= shelf.len() {
-        return None;
-    }
-    match &shelf[place as usize] {
-        Some(held) => Some(Lodging {
-            account: held.account,
-            expiry: held.pledge.expiry(),
-            cover: held.pledge.cover(day),
-        }),
-        None => None,
-    }
+    let held = shelf.get(place as usize)?.as_ref()?;
+    Some(Lodging {
+        account: held.account,
+        expiry: held.pledge.expiry(),
+        cover: held.pledge.cover(day),
+    })
 }
 
 /// Puts a pledge that backs an account into a place.
@@ -57,8 +46,8 @@ pub fn empty<P: Drop>(shelf: &mut [Option<Held<P>>], place: u8)
 pub fn clear<P: Drop>(shelf: &mut [Option<Held<P>>], account: u8)
     ensures { shelf.new ≡ cleared account shelf.old }
 {
-    for k in 0..shelf.len() {
-        spare(&mut shelf[k], account);
+    for place in shelf.iter_mut() {
+        spare(place, account);
     }
 }
 

@@ -1,10 +1,24 @@
 -- Sums over the numbers below n.
-use Rattle.std.proofs.Common.{◌≡◌, ℕ, zero, suc, ◌+◌, ◌*◌, ◌<◌, ◌≤◌, sym, refl, ap, subst, inl, inr, suc-mul, zero-mul, add-one, arith}
+use Rattle.std.proofs.Common.{◌≡◌, ℕ, zero, suc, ◌+◌, ◌*◌, ◌<◌, ◌≤◌, List, [], ◌∷◌, length, get_or, sym, refl, ap, subst, inl, inr, suc-mul, zero-mul, add-one, arith}
+use Rattle.std.specs.List.{sum_by}
+use Rattle.std.proofs.lemmas.List.Sums.{sum_by-cons}
 use Rattle.std.proofs.lemmas.Bool.{cases_eq}
 use Rattle.sums.specs.Below.{below}
 
 pub below_more : (n : ℕ) (f : ℕ → ℕ) → below (n + 1) f ≡ below n f + f n
 below_more n f = ap (λ m. below m f) (add-one n)
+
+-- the first number, and the rest
+pub below_front : (n : ℕ) (f : ℕ → ℕ) → below (suc n) f ≡ f 0 + below n (λ k. f (suc k))
+below_front zero f = omega arith
+below_front (suc n) f = omega (arith, below_front n f)
+
+-- a sum over the places of a list is one over its items
+pub below_listed : {X : Type 0} (f : X → ℕ) (none : X) (xs : List X) → below (length xs) (λ k. f (get_or xs k none)) ≡ sum_by f xs
+below_listed f none [] = refl
+below_listed f none (x ∷ xs) =
+    let front = below_front (length xs) (λ k. f (get_or (x ∷ xs) k none)) in
+    omega (arith, front, below_listed f none xs, sum_by-cons f x xs)
 
 -- a sum of nothing but 0 is 0
 pub below_none : (n : ℕ) (f : ℕ → ℕ) → ((k : ℕ) → k < n → f k ≡ 0) → below n f ≡ 0
