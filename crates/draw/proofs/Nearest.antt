@@ -1,7 +1,10 @@
 -- The nearest candidate of a scan is the next turn.
-use Rattle.std.proofs.Common.{◌≡◌, ℕ, zero, suc, ◌+◌, ◌<◌, Bool, true, false, cond, eqb, List, length, get_or, Some, None, Option, sym, refl, ap, subst, inl, inr, add-one, arith}
-use Rattle.std.proofs.lemmas.List.{get_or_read}
+use Rattle.std.proofs.Common.{◌≡◌, ℕ, zero, suc, ◌+◌, ◌<◌, Bool, true, false, cond, eqb, List, [], length, drop, Some, None, Option, sym, refl, ap, ◌∙◌, subst, inl, inr, add-one, arith, drop-cons}
+use Rattle.std.specs.List.{filter_map, cons_option, enumerate_from, reduce, fold}
+use Rattle.std.specs.Ordering.{min_by_ordering, ordering_then, nat_cmp}
+use Rattle.std.proofs.lemmas.List.{drop_all}
 use Rattle.std.proofs.lemmas.Bool.{cases_eq, both_ways}
+use Rattle.std.proofs.lemmas.Bool.Decides.{nat_tests}
 use Rattle.pledge.specs.Numbers.{Numbers}
 use Rattle.shelf.specs.Places.{at}
 use Rattle.shelf.specs.declared.held.Held.{Held}
@@ -9,6 +12,33 @@ use Rattle.draw.specs.Draws.{mine, turn_at, sooner}
 use Rattle.draw.specs.Nexts.{NextIs, candidate, nearer}
 use Rattle.draw.specs.declared.turn.Turn.{Turn}
 use Rattle.draw.proofs.Orders.{sooner_self, sooner_not}
+
+-- the order that turns derive, and the lesser of two in it
+abbrev pub min_turn : Turn → Turn → Turn
+min_turn x y = min_by_ordering (ordering_then (nat_cmp x.expiry y.expiry) (nat_cmp x.place y.place)) x y
+
+min_is : (x y : Turn) → min_turn x y ≡ cond (sooner y x) y x
+min_is x y = grind (arith, nat_tests)
+
+-- the least of a turn, if there is one, and of others
+abbrev among : Option Turn → List Turn → Option Turn
+among None ts = reduce min_turn ts
+among (Some t) ts = Some (fold min_turn t ts)
+
+among_no_more : (o : Option Turn) → among o [] ≡ o
+among_no_more None = refl
+among_no_more (Some t) = refl
+
+cond_some : (b : Bool) (x y : Turn) → Some (cond b y x) ≡ cond b (Some y) (Some x)
+cond_some true x y = refl
+cond_some false x y = refl
+
+among_more : (best next : Option Turn) (ts : List Turn) → among best (cons_option next ts) ≡ among (nearer best next) ts
+among_more None None ts = refl
+among_more None (Some y) ts = refl
+among_more (Some x) None ts = refl
+among_more (Some x) (Some y) ts =
+    ap (λ (t : Turn). Some (fold min_turn t ts)) (min_is x y) ∙ ap (λ (o : Option Turn). among o ts) (cond_some (sooner y x) x y)
 
 module _ {P : Type 0} (n : Numbers P) (shelf : List (Option (Held P))) (account : ℕ) (from : Turn) where
   -- nearest k: the nearest candidate at places below k
@@ -84,10 +114,26 @@ module _ {P : Type 0} (n : Numbers P) (shelf : List (Option (Held P))) (account 
   nearest_is zero = λ j l. absurd (omega arith)
   nearest_is (suc k) = one_more k (nearest k) (candidate n account from k (at shelf k)) (nearest_is k) (candid_of k (at shelf k) refl)
 
-  -- the nearest candidate with one place more
-  pub nearest_more : {k : ℕ} {place : Option (Held P)} {best next more : Option Turn} → k < length shelf → place ≡ get_or shelf k place →
-      best ≡ nearest k → next ≡ candidate n account from k place → more ≡ nearer best next → more ≡ nearest (k + 1)
-  nearest_more {k} {place} within is best-is next-is more-is =
-      let here : place ≡ at shelf k = get_or_read shelf k place within is None in
-      let more : nearest (k + 1) ≡ nearest (suc k) = ap nearest (add-one k) in
-      cc
+  -- the turns of the candidates from place i on
+  abbrev turns_from : ℕ → List Turn
+  turns_from i = filter_map (λ (p : ℕ × Option (Held P)). candidate n account from p.0 p.1) (enumerate_from i (drop i shelf))
+
+  turns_more : (i : ℕ) → i < length shelf → turns_from i ≡ cons_option (candidate n account from i (at shelf i)) (turns_from (suc i))
+  turns_more i l =
+      ap (λ xs. filter_map (λ (p : ℕ × Option (Held P)). candidate n account from p.0 p.1) (enumerate_from i xs)) (drop-cons shelf i None l)
+      ∙ ap (λ m. cons_option (candidate n account from i (at shelf i)) (filter_map (λ (p : ℕ × Option (Held P)). candidate n account from p.0 p.1) (enumerate_from m (drop (suc i) shelf)))) (add-one i)
+
+  least_from : (d i : ℕ) → i + d ≡ length shelf → among (nearest i) (turns_from i) ≡ nearest (length shelf)
+  least_from zero i e =
+      let all : i ≡ length shelf = omega arith in
+      ap (λ xs. among (nearest i) (filter_map (λ (p : ℕ × Option (Held P)). candidate n account from p.0 p.1) (enumerate_from i xs))) (drop_all i shelf (omega arith))
+      ∙ among_no_more (nearest i) ∙ ap nearest all
+  least_from (suc d) i e =
+      ap (among (nearest i)) (turns_more i (omega arith))
+      ∙ among_more (nearest i) (candidate n account from i (at shelf i)) (turns_from (suc i))
+      ∙ least_from d (suc i) (omega arith)
+
+  -- the least of all candidates is the next turn
+  pub least_is : {t : Option Turn} → t ≡ reduce min_turn (filter_map (λ (p : ℕ × Option (Held P)). candidate n account from p.0 p.1) (enumerate_from 0 shelf)) →
+      NextIs n shelf account from (length shelf) t
+  least_is e = subst (λ (o : Option Turn). NextIs n shelf account from (length shelf) o) (sym (e ∙ least_from (length shelf) 0 (omega arith))) (nearest_is (length shelf))

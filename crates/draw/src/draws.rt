@@ -39,8 +39,8 @@ pub fn draw_on<P: Pledge>(
         total += paid;
         lack = lack.saturating_sub(paid);
         from = Turn {
-            expiry: next.expiry,
             place: next.place + 1,
+            ..next
         };
     }
     total

@@ -1,5 +1,5 @@
-/// When a pledge has its turn to be drawn on: nearer expiry first, and then lower place.
-#[derive(Clone, Copy)]
+/// When a pledge has its turn to be drawn on: nearer expiry first, and then lower place, which is the order of the fields.
+#[derive(Clone, Copy, PartialEq, Eq, PartialOrd, Ord)]
 pub struct Turn {
     /// The last day on which the pledge pays.
     pub expiry: u16,

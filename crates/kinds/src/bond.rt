@@ -3,7 +3,7 @@ ghost use Rattle.pledge.specs.Limits.{last_expiry};
 ghost use Rattle.kinds.specs.Amounts.{top_blocks};
 
 /// Bonds: `blocks` blocks can still be sold, up to and on the expiry day.
-#[derive(Drop)]
+#[derive(Debug, PartialEq, Eq, Drop)]
 pub struct Bond {
     pub(crate) expiry: u16,
     pub(crate) blocks: u16,

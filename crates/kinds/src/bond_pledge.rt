@@ -20,7 +20,7 @@ impl Bond {
     pub fn new(blocks: u16, expiry: u16) -> Option<Bond>
         ensures { Lodged result blocks expiry }
     {
-        if blocks >= 1 && blocks <= TOP_BLOCKS {
+        if (1..=TOP_BLOCKS).contains(&blocks) {
             Some(Bond { expiry, blocks })
         } else {
             None
@@ -89,7 +89,5 @@ impl Pledge for Bond {
 fn blocks_for(ask: u64, price: BlockPrice) -> u64
     ensures { result ≡ reach ask price.cents }
 {
-    let each = price.cents as u64;
-    let whole = ask / each;
-    if ask % each == 0 { whole } else { whole + 1 }
+    ask.div_ceil(price.cents as u64)
 }

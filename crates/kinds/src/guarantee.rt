@@ -3,7 +3,7 @@ ghost use Rattle.pledge.specs.Limits.{last_expiry};
 ghost use Rattle.kinds.specs.Amounts.{thousand, top_thousands};
 
 /// A promise to pay: `left` cents can still be drawn, up to and on the expiry day.
-#[derive(Drop)]
+#[derive(Debug, PartialEq, Eq, Drop)]
 pub struct Guarantee {
     pub(crate) expiry: u16,
     pub(crate) left: u64,

@@ -17,7 +17,7 @@ impl Guarantee {
     pub fn new(thousands: u32, expiry: u16) -> Option<Guarantee>
         ensures { Issued result thousands expiry }
     {
-        if thousands >= 1 && thousands <= TOP_THOUSANDS {
+        if (1..=TOP_THOUSANDS).contains(&thousands) {
             Some(Guarantee {
                 expiry,
                 left: thousands as u64 * THOUSAND,

@@ -5,7 +5,7 @@ ghost use Rattle.pledge.specs.Limits.{Priced, top_block_price};
 pub const TOP_BLOCK_PRICE: u32 = 20_000_000;
 
 /// A block price: what one block of bonds sells for, 1 to `TOP_BLOCK_PRICE` cents.
-#[derive(Clone, Copy)]
+#[derive(Clone, Copy, Debug, PartialEq, Eq, PartialOrd, Ord)]
 pub struct BlockPrice {
     /// The price in cents.
     pub cents: u32,
@@ -18,7 +18,7 @@ impl BlockPrice {
     pub fn new(cents: u32) -> Option<BlockPrice>
         ensures { elim result [ Some p ↦ Priced cents × (p.cents ≡ cents) | None ↦ (Priced cents → ⊥) ] }
     {
-        if cents >= 1 && cents <= TOP_BLOCK_PRICE {
+        if (1..=TOP_BLOCK_PRICE).contains(&cents) {
             Some(BlockPrice { cents })
         } else {
             None
