@@ -1,5 +1,6 @@
 -- What keeps a table sound.
-use Rattle.std.proofs.Common.{◌≡◌, ℕ, zero, suc, ◌+◌, ◌-◌, ◌<◌, ◌≤◌, Bool, true, false, cond, List, get_or, replicate, is_some, ℤ, pos, ◌≤ℤ◌, Some, None, Option, sym, refl, ap, ◌∙◌, subst, arith, length-set}
+use Rattle.std.proofs.Common.{◌≡◌, ℕ, zero, suc, ◌+◌, ◌-◌, ◌<◌, ◌≤◌, Bool, true, false, not, cond, List, get_or, replicate, is_some, ℤ, pos, ◌≤ℤ◌, Some, None, Option, sym, refl, ap, ◌∙◌, subst, arith, length-set}
+use denote.Enum.Bare.{sameb}
 use Rattle.std.specs.Option.{option_map}
 use Rattle.std.proofs.lemmas.Int.{ints}
 use Rattle.std.proofs.lemmas.Bool.{true≢false}
@@ -10,8 +11,10 @@ use Rattle.lending.specs.Measures.{top_units}
 use Rattle.lending.specs.Eleven.{accounts_after, offers_after}
 use Rattle.lending.proofs.After.{accounts_long, offers_long, accounts_taken, accounts_sound, offers_sound}
 use Rattle.lending.specs.Sound.{SoundLoan, SoundBalance, SoundAccount, SoundAccounts, SoundTerms, SoundEarnings, SoundOffer, SoundOffers, securities, top_rate, top_commission, top_balance}
+use Rattle.table.specs.contracts.hour.Hour.{the_type}
 use Rattle.table.specs.declared.hour.Hour.{Hour}
 use Rattle.table.specs.declared.hour.Hour.TheVariants as hour
+use Rattle.table.specs.declared.ledger.Ledger.{Ledger}
 use Rattle.table.specs.declared.table.Table.{Table}
 use Rattle.table.specs.Act.{first}
 use Rattle.table.specs.Tables.{account_at, offer_at, elevens, blank, calling, afternoon, taken, with_account, with_offer, blank_table}
@@ -27,6 +30,21 @@ use Rattle.table.proofs.Slots.{each_put, still_taken, of_some, of_none}
 cond_le : (b : Bool) (m n k : ℕ) → m ≤ k → n ≤ k → cond b m n ≤ k
 cond_le true m n k p q = p
 cond_le false m n k p q = q
+
+-- a ledger's table is sound
+pub sound_of : (l : Ledger) → Sound l.table
+sound_of l = record {
+  dated = l.dated;
+  sized = l.sized;
+  priced = l.priced;
+  loans = l.loans;
+  balances = l.balances;
+  terms = l.terms;
+  earnings = l.earnings;
+  held = l.held;
+  noticed = l.noticed;
+  idle = l.idle;
+}
 
 module _ (t : Table) (s : Sound t) where
   -- a sound account put where there may be one
@@ -150,8 +168,8 @@ none_priced (suc n) zero = refl
 none_priced (suc n) (suc k) = none_priced n k
 
 -- a new table is sound
-pub blank_sound : Sound blank_table
-blank_sound = record {
+new_sound : Sound blank_table
+new_sound = record {
   dated = omega arith;
   sized = (refl, refl);
   priced = λ k. omega (arith, none_priced 8 k);
@@ -163,6 +181,11 @@ blank_sound = record {
   noticed = λ n h. absurd (true≢false (sym h ∙ bit_none n));
   idle = λ _. refl;
 }
+
+-- by other words for no notice and no slip too
+pub blank_sound : {notices slips : ℕ} → notices ≡ 0 → slips ≡ 0 →
+    Sound (record { day = 0; hour = hour.Blank; prices = blank_table.prices; accounts = blank_table.accounts; offers = blank_table.offers; notices = notices; slips = slips })
+blank_sound p q = rw (p, q) new_sound
 
 pub blank_begun : Begun blank_table
 blank_begun h = absurd (true≢false h)
@@ -195,6 +218,13 @@ struck_kept t s b calls none =
       noticed = λ n m. taken_mapped _ _ (accounts_taken t.accounts t.offers n) (s.noticed n m);
       idle = λ _. none;
     }
+
+-- an hour that a derived comparison tells from the calling hour by nothing
+pub is_calling : (h : Hour) → false ≡ not (sameb the_type h hour.Calling) → h ≡ hour.Calling
+is_calling hour.Blank e = absurd (true≢false (sym e))
+is_calling hour.Morning e = absurd (true≢false (sym e))
+is_calling hour.Calling e = refl
+is_calling hour.Afternoon e = absurd (true≢false (sym e))
 
 -- in the calling hour with no notice open eleven is not refused
 pub strikes : (t : Table) → t.hour ≡ hour.Calling → t.notices ≡ 0 → first (eleven_causes t) ≡ None

@@ -1,13 +1,16 @@
--- The prices of a day, read from their front.
-use Rattle.std.proofs.Common.{◌≡◌, ℕ, zero, suc, ◌+◌, ◌<◌, ◌≤◌, true, not, ◌&&◌, List, [], ◌∷◌, length, get_or, drop, add-one, arith, drop-cons}
+-- The prices of a day.
+use Rattle.std.proofs.Common.{◌≡◌, ℕ, zero, suc, ◌≤◌, true, not, ◌&&◌, List, [], ◌∷◌, get_or, refl, ap, arith}
+use Rattle.std.specs.List.{list_all}
 use Rattle.std.proofs.lemmas.Bool.Decides.{nat_tests}
 use Rattle.std.proofs.lemmas.Bool.{and_parts}
 use Rattle.lending.specs.Measures.{top_price}
 use Rattle.table.specs.Act.{outside}
 use Rattle.table.specs.Days.{all_priced}
 
-pub priced_step : (ps : List ℕ) (i : ℕ) → i < length ps → all_priced (drop i ps) ≡ (not (outside 1 top_price (get_or ps i 0)) && all_priced (drop (i + 1) ps))
-priced_step ps i lt = rw (add-one, drop-cons ps i 0)
+-- a test of each price is a test of all of them
+pub all_tested : (ps : List ℕ) → list_all (λ p. not (outside 1 top_price p)) ps ≡ all_priced ps
+all_tested [] = refl
+all_tested (p ∷ ps) = ap (λ b. not (outside 1 top_price p) && b) (all_tested ps)
 
 in_range : (n : ℕ) → not (outside 1 top_price n) ≡ true → n ≤ top_price
 in_range n e = grind (arith, nat_tests)

@@ -26,3 +26,7 @@ of_some P y p x e = let same : y ≡ x = cc in subst P same p
 
 pub of_none : {X : Type 0} (P : X → Type 0) (x : X) → None ≡ Some x → P x
 of_none P x e = let z : ◌≡◌ {A = ℕ} 0 1 = cc in absurd (omega arith)
+
+-- what stands in two places that are the same
+pub some_same : {X : Type 0} {x y : X} → Some x ≡ Some y → x ≡ y
+some_same e = cc

@@ -5,36 +5,31 @@ ghost use Rattle.lending.specs.Sound.{top_balance, lowest};
 ghost use Rattle.table.specs.Act.{Acted};
 ghost use Rattle.table.specs.Limits.{top_deposit, last_day};
 ghost use Rattle.table.specs.Accounts.{with_balance, with_applied, with_owed, enrol_act, apply_act, return_act, deposit_act};
-ghost use Rattle.table.specs.Sound.{Sound, Begun};
 
 use super::hour::Hour;
+use super::ledger::Ledger;
 use super::limits::{ACCOUNT_PLACES, SECURITIES, TOP_BALANCE, TOP_DEPOSIT, TOP_FIRM, TOP_UNITS};
 use super::refusal::Refusal;
-use super::table::Table;
-use bits::is_set;
 use lending::Account;
 
-impl Table {
+impl Ledger {
     /// Gives a place to a firm and a security, at balance 0.
     pub fn enrol(&mut self, account: u8, firm: u16, security: u8) -> Result<(), Refusal>
-        requires { Sound self.old }
-        ensures acted { Acted (enrol_act account firm security) self.old self.new result }
-        ensures sound { Sound self.new }
-        ensures begun { Begun self.old → Begun self.new }
+        ensures { Acted (enrol_act account firm security) self.old.table self.new.table result }
     {
         if account >= ACCOUNT_PLACES || security >= SECURITIES {
             return Err(Refusal::NoSuchPlace);
         }
-        if firm < 1 || firm > TOP_FIRM {
+        if !(1..=TOP_FIRM).contains(&firm) {
             return Err(Refusal::OutOfRange);
         }
-        let Hour::Morning = self.hour else {
+        if self.table.hour != Hour::Morning {
             return Err(Refusal::WrongHour);
-        };
-        if let Some(_) = self.account(account) {
+        }
+        if self.account(account).is_some() {
             return Err(Refusal::PlaceTaken);
         }
-        self.accounts[account as usize] = Some(Account {
+        self.table.accounts[account as usize] = Some(Account {
             firm,
             security,
             owed: 0,
@@ -47,20 +42,17 @@ impl Table {
 
     /// Adds applied units, and answers all applied.
     pub fn apply(&mut self, account: u8, units: u16) -> Result<u16, Refusal>
-        requires { Sound self.old }
-        ensures acted { Acted (apply_act account units) self.old self.new result }
-        ensures sound { Sound self.new }
-        ensures begun { Begun self.old → Begun self.new }
+        ensures { Acted (apply_act account units) self.old.table self.new.table result }
     {
         if account >= ACCOUNT_PLACES {
             return Err(Refusal::NoSuchPlace);
         }
-        if units < 1 || units > TOP_UNITS {
+        if !(1..=TOP_UNITS).contains(&units) {
             return Err(Refusal::OutOfRange);
         }
-        let Hour::Morning = self.hour else {
+        if self.table.hour != Hour::Morning {
             return Err(Refusal::WrongHour);
-        };
+        }
         let Some(a) = self.account(account) else {
             return Err(Refusal::PlaceEmpty);
         };
@@ -71,26 +63,25 @@ impl Table {
             return Err(Refusal::UnitsOutOfReach);
         }
         let applied = a.applied + units;
-        set_applied(&mut self.accounts[account as usize], applied);
+        if let Some(a) = &mut self.table.accounts[account as usize] {
+            a.applied = applied;
+        }
         Ok(applied)
     }
 
     /// Takes units off the owed ones, and answers the rest.
     pub fn return_units(&mut self, account: u8, units: u16) -> Result<u16, Refusal>
-        requires { Sound self.old }
-        ensures acted { Acted (return_act account units) self.old self.new result }
-        ensures sound { Sound self.new }
-        ensures begun { Begun self.old → Begun self.new }
+        ensures { Acted (return_act account units) self.old.table self.new.table result }
     {
         if account >= ACCOUNT_PLACES {
             return Err(Refusal::NoSuchPlace);
         }
-        if units < 1 || units > TOP_UNITS {
+        if !(1..=TOP_UNITS).contains(&units) {
             return Err(Refusal::OutOfRange);
         }
-        let Hour::Morning = self.hour else {
+        if self.table.hour != Hour::Morning {
             return Err(Refusal::WrongHour);
-        };
+        }
         let Some(a) = self.account(account) else {
             return Err(Refusal::PlaceEmpty);
         };
@@ -98,37 +89,38 @@ impl Table {
             return Err(Refusal::UnitsOutOfReach);
         }
         let owed = a.owed - units;
-        set_owed(&mut self.accounts[account as usize], owed);
+        if let Some(a) = &mut self.table.accounts[account as usize] {
+            a.owed = owed;
+        }
         Ok(owed)
     }
 
     /// Adds cents to the balance, and answers it.
     pub fn deposit(&mut self, account: u8, cents: u64) -> Result<i64, Refusal>
-        requires { Sound self.old }
-        ensures acted { Acted (deposit_act account cents) self.old self.new result }
-        ensures sound { Sound self.new }
-        ensures begun { Begun self.old → Begun self.new }
+        ensures { Acted (deposit_act account cents) self.old.table self.new.table result }
     {
         if account >= ACCOUNT_PLACES {
             return Err(Refusal::NoSuchPlace);
         }
-        if cents < 1 || cents > TOP_DEPOSIT {
+        if !(1..=TOP_DEPOSIT).contains(&cents) {
             return Err(Refusal::OutOfRange);
         }
-        if let Hour::Blank = self.hour {
+        if self.table.hour == Hour::Blank {
             return Err(Refusal::WrongHour);
         }
         let Some(a) = self.account(account) else {
             return Err(Refusal::PlaceEmpty);
         };
-        if is_set(self.slips, account) {
+        if self.table.slips.contains(account) {
             return Err(Refusal::UnderSlip);
         }
         let balance = raised(a.balance, cents);
         if balance > TOP_BALANCE {
             return Err(Refusal::BalanceTooHigh);
         }
-        set_balance(&mut self.accounts[account as usize], balance);
+        if let Some(a) = &mut self.table.accounts[account as usize] {
+            a.balance = balance;
+        }
         Ok(balance)
     }
 }
@@ -140,28 +132,4 @@ fn raised(balance: i64, cents: u64) -> i64
     ensures { result ≡ balance +ℤ pos cents }
 {
     balance + cents as i64
-}
-
-fn set_applied(slot: &mut Option<Account>, applied: u16)
-    ensures { slot.new ≡ option_map (with_applied applied) slot.old }
-{
-    if let Some(a) = slot {
-        a.applied = applied;
-    }
-}
-
-fn set_owed(slot: &mut Option<Account>, owed: u16)
-    ensures { slot.new ≡ option_map (with_owed owed) slot.old }
-{
-    if let Some(a) = slot {
-        a.owed = owed;
-    }
-}
-
-fn set_balance(slot: &mut Option<Account>, balance: i64)
-    ensures { slot.new ≡ option_map (with_balance balance) slot.old }
-{
-    if let Some(a) = slot {
-        a.balance = balance;
-    }
 }

@@ -1,5 +1,5 @@
 /// The part of the day that the book is in.
-#[derive(Clone, Copy)]
+#[derive(Clone, Copy, Debug, PartialEq, Eq)]
 pub enum Hour {
     /// Before the first day.
     Blank,

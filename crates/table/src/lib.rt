@@ -5,6 +5,7 @@ mod accounts;
 mod days;
 mod elevens;
 mod hour;
+mod ledger;
 mod limits;
 mod offers;
 mod read;
@@ -13,6 +14,7 @@ mod table;
 mod words;
 
 pub use hour::Hour;
+pub use ledger::Ledger;
 pub use limits::{ACCOUNT_PLACES, OFFER_PLACES, SECURITIES};
 pub use refusal::Refusal;
 pub use table::Table;

@@ -2,15 +2,14 @@
 ghost use Rattle.std.specs.Prelude.{◌≡◌};
 ghost use Rattle.table.specs.Act.{Acted};
 ghost use Rattle.table.specs.Offers.{offer_act, withdraw_act};
-ghost use Rattle.table.specs.Sound.{Sound, Begun};
 
 use super::hour::Hour;
+use super::ledger::Ledger;
 use super::limits::{OFFER_PLACES, RATE_PER_CENT, SECURITIES, TOP_COMMISSION, TOP_RATE, TOP_UNITS};
 use super::refusal::Refusal;
-use super::table::Table;
 use lending::Offer;
 
-impl Table {
+impl Ledger {
     /// Records an offer of units at a rate and commission, with nothing earned yet.
     pub fn offer(
         &mut self,
@@ -20,27 +19,24 @@ impl Table {
         rate: u32,
         commission: u8,
     ) -> Result<(), Refusal>
-        requires { Sound self.old }
-        ensures acted { Acted (offer_act place security units rate commission) self.old self.new result }
-        ensures sound { Sound self.new }
-        ensures begun { Begun self.old → Begun self.new }
+        ensures { Acted (offer_act place security units rate commission) self.old.table self.new.table result }
     {
         if place >= OFFER_PLACES || security >= SECURITIES {
             return Err(Refusal::NoSuchPlace);
         }
-        if units < 1 || units > TOP_UNITS || rate > TOP_RATE || commission > TOP_COMMISSION {
+        if !(1..=TOP_UNITS).contains(&units) || rate > TOP_RATE || commission > TOP_COMMISSION {
             return Err(Refusal::OutOfRange);
         }
-        let Hour::Morning = self.hour else {
+        if self.table.hour != Hour::Morning {
             return Err(Refusal::WrongHour);
-        };
-        if let Some(_) = self.offer_at(place) {
+        }
+        if self.offer_at(place).is_some() {
             return Err(Refusal::PlaceTaken);
         }
         if 100 * rate > RATE_PER_CENT * self.price(security) {
             return Err(Refusal::RateTooHigh);
         }
-        self.offers[place as usize] = Some(Offer {
+        self.table.offers[place as usize] = Some(Offer {
             security,
             units,
             rate,
@@ -53,21 +49,18 @@ impl Table {
 
     /// Ends an offer, and answers its unpaid earnings: the lender's part and the broker's.
     pub fn withdraw(&mut self, place: u16) -> Result<(u64, u64), Refusal>
-        requires { Sound self.old }
-        ensures acted { Acted (withdraw_act place) self.old self.new result }
-        ensures sound { Sound self.new }
-        ensures begun { Begun self.old → Begun self.new }
+        ensures { Acted (withdraw_act place) self.old.table self.new.table result }
     {
         if place >= OFFER_PLACES {
             return Err(Refusal::NoSuchPlace);
         }
-        let Hour::Morning = self.hour else {
+        if self.table.hour != Hour::Morning {
             return Err(Refusal::WrongHour);
-        };
+        }
         let Some(o) = self.offer_at(place) else {
             return Err(Refusal::PlaceEmpty);
         };
-        self.offers[place as usize] = None;
+        self.table.offers[place as usize] = None;
         Ok((o.lender, o.broker))
     }
 }

@@ -1,60 +1,58 @@
-// A new table, and readers, which say that what they answer is sound.
+// A new ledger, and readers.
 ghost use Rattle.std.specs.Prelude.{◌≡◌, ◌<◌, ◌≤◌};
 ghost use Rattle.lending.specs.Measures.{top_price};
 ghost use Rattle.lending.specs.Sound.{securities, account_places, offer_places};
 ghost use Rattle.table.specs.Tables.{account_at, offer_at, price_at, elevens, blank_table};
-ghost use Rattle.table.specs.Sound.{Sound, Begun, Dated, SoundSlot, SoundOfferSlot};
+ghost use Rattle.table.specs.Sound.{SoundSlot, SoundOfferSlot};
 
 use super::hour::Hour;
+use super::ledger::Ledger;
 use super::table::Table;
+use bits::Places;
 use lending::{Account, Offer};
 
-impl Table {
+impl Ledger {
     /// The blank hour of day 0, with every place empty.
-    pub fn blank() -> Table
-        ensures value { result ≡ blank_table }
-        ensures sound { Sound result }
-        ensures begun { Begun result }
+    pub fn blank() -> Ledger
+        ensures { result.table ≡ blank_table }
     {
-        Table {
-            day: 0,
-            hour: Hour::Blank,
-            prices: [0; 8],
-            accounts: [None; 64],
-            offers: [None; 256],
-            notices: 0,
-            slips: 0,
+        Ledger {
+            table: Table {
+                day: 0,
+                hour: Hour::Blank,
+                prices: [0; 8],
+                accounts: [None; 64],
+                offers: [None; 256],
+                notices: Places::none(),
+                slips: Places::none(),
+            },
         }
     }
 
     /// What stands at an account place.
     pub fn account(&self, place: u8) -> Option<Account>
-        requires place { place < account_places }
-        requires sound { Sound self.now }
-        ensures value { result ≡ account_at self.now place }
-        ensures sound { SoundSlot (elevens self.now) result }
-        ensures dated { Dated self.now }
+        requires { place < account_places }
+        ensures value { result ≡ account_at self.now.table place }
+        ensures sound { SoundSlot (elevens self.now.table) result }
     {
-        self.accounts[place as usize]
+        self.table.accounts[place as usize]
     }
 
     /// What stands at an offer place.
     pub fn offer_at(&self, place: u16) -> Option<Offer>
-        requires place { place < offer_places }
-        requires sound { Sound self.now }
-        ensures value { result ≡ offer_at self.now place }
-        ensures sound { SoundOfferSlot (elevens self.now) result }
+        requires { place < offer_places }
+        ensures value { result ≡ offer_at self.now.table place }
+        ensures sound { SoundOfferSlot (elevens self.now.table) result }
     {
-        self.offers[place as usize]
+        self.table.offers[place as usize]
     }
 
     /// The price of a security.
     pub fn price(&self, security: u8) -> u32
-        requires security { security < securities }
-        requires sound { Sound self.now }
-        ensures value { result ≡ price_at self.now security }
+        requires { security < securities }
+        ensures value { result ≡ price_at self.now.table security }
         ensures most { result ≤ top_price }
     {
-        self.prices[security as usize]
+        self.table.prices[security as usize]
     }
 }

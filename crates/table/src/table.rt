@@ -1,4 +1,5 @@
 use super::hour::Hour;
+use bits::Places;
 use lending::{Account, Offer};
 
 /// All that a book knows, with nothing promised about it.
@@ -10,8 +11,8 @@ pub struct Table {
     pub prices: [u32; 8],
     pub accounts: [Option<Account>; 64],
     pub offers: [Option<Offer>; 256],
-    /// Bit n is set while account n has an open notice.
-    pub notices: u64,
-    /// Bit n is set while a slip is out for account n.
-    pub slips: u64,
+    /// The accounts that have an open notice.
+    pub notices: Places,
+    /// The accounts that a slip is out for.
+    pub slips: Places,
 }

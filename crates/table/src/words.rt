@@ -1,32 +1,17 @@
 // The number and the words of each refusal.
-ghost use Rattle.std.specs.Prelude.{◌≡◌};
+ghost use Rattle.std.specs.Prelude.{◌≡◌, Some};
 ghost use Rattle.table.specs.Refusals.{naming};
 
 use super::refusal::Refusal;
+use std::error::Error;
+use std::fmt;
 
 impl Refusal {
     /// The number by which it is known.
     pub fn number(&self) -> u8
         ensures { result ≡ (naming self.now).number }
     {
-        match self {
-            Refusal::NoSuchPlace => 1,
-            Refusal::OutOfRange => 2,
-            Refusal::WrongHour => 3,
-            Refusal::PlaceTaken => 4,
-            Refusal::PlaceEmpty => 5,
-            Refusal::Barred => 6,
-            Refusal::UnitsOutOfReach => 7,
-            Refusal::RateTooHigh => 8,
-            Refusal::NoNotice => 9,
-            Refusal::UnderSlip => 10,
-            Refusal::NoticeOpen => 11,
-            Refusal::BelowTarget => 12,
-            Refusal::NotSettled => 13,
-            Refusal::BalanceTooHigh => 14,
-            Refusal::Expired => 15,
-            Refusal::LastDay => 16,
-        }
+        *self as u8
     }
 
     /// Its cause, in words.
@@ -51,5 +36,23 @@ impl Refusal {
             Refusal::Expired => "the pledge expires too soon",
             Refusal::LastDay => "the last day is over",
         }
+    }
+}
+
+impl fmt::Display for Refusal {
+    ghost output = { λ refusal. Some (naming refusal).words };
+
+    fn fmt<W: fmt::Write>(&self, f: &mut fmt::Formatter<W>) -> fmt::Result {
+        f.write_str(self.words())
+    }
+}
+
+impl Error for Refusal {}
+
+impl From<Refusal> for u8 {
+    ghost from_gives = { λ refusal n. n ≡ (naming refusal).number };
+
+    fn from(refusal: Refusal) -> u8 {
+        refusal.number()
     }
 }
