@@ -1,5 +1,5 @@
 -- What keeps a table sound where notices are given and closed, and slips are out and taken back.
-use Rattle.std.proofs.Common.{◌≡◌, ℕ, ◌+◌, ◌*◌, ◌≤◌, Bool, true, false, ℤ, pos, negsuc, ◌≤ℤ◌, Some, None, Option, sym, refl, ap, ◌∙◌, subst, inl, inr, arith, length-set}
+use Rattle.std.proofs.Common.{◌≡◌, ℕ, ◌+◌, ◌*◌, ◌≤◌, Bool, true, false, set, ℤ, pos, negsuc, ◌≤ℤ◌, Some, None, Option, sym, refl, ap, ◌∙◌, subst, inl, inr, arith, length-set}
 use Rattle.std.proofs.lemmas.Bool.{true≢false, both_ways, cond-true, cond-false}
 use Rattle.std.proofs.lemmas.Int.{ints, by_lt_z}
 use Rattle.std.specs.Option.{option_map}
@@ -56,6 +56,16 @@ settled_sound e p yields sound free most lack none few = ((sound.0.0, omega arit
     high = by_lt_z a.balance (pos p.cost) (λ under. omega (arith, ints)) (λ over.
         let nothing : yields ≡ 0 = none (lack ∙ passes_none a.balance p.cost over) in
         omega (arith, ints, sound.1.1))
+
+-- a table with another account at a place, and these words for its notices and slips
+abbrev pub closed_with_words : Table → ℕ → Option Account → ℕ → ℕ → Table
+closed_with_words t k o notices slips =
+    record { day = t.day; hour = t.hour; prices = t.prices; accounts = set t.accounts k o; offers = t.offers; notices = notices; slips = slips }
+
+pub closed_words : (t : Table) (k : ℕ) (o : Option Account) {notices slips : ℕ} → notices ≡ without_bit t.notices k → slips ≡ without_bit t.slips k →
+    closed_with_words t k o notices slips ≡ closed_with t k o
+closed_words t k o {notices} p q =
+    ap (λ m. closed_with_words t k o notices m) q ∙ ap (λ m. closed_with_words t k o m (without_bit t.slips k)) p
 
 module _ (t : Table) (s : Sound t) where
   pub called_kept : (covers : ℕ → ℕ) → t.hour ≡ Morning → Sound (called t (short_among t covers))

@@ -6,16 +6,14 @@ ghost use Rattle.lending.specs.Sound.{account_places, lowest, top_balance, top_c
 ghost use Rattle.shelf.specs.Limits.{top_cover};
 ghost use Rattle.table.specs.Act.{first as first_cause};
 ghost use Rattle.table.specs.Limits.{last_day};
-ghost use Rattle.table.specs.Sound.{Begun, Sound};
 ghost use Rattle.margin.specs.BuyIns.{PurchaseFound, Settles, barred_at, bought_in, buy_in_causes, cost_at, passes, settled};
 
 use crate::execution::Execution;
+use crate::lengths::Lengths;
 use crate::purchase::Purchase;
-use bits::{is_set, without_bit};
 use lending::{Account, SHARES};
 use pledge::BlockPrice;
-use shelf::SHELF_PLACES;
-use table::{Refusal, Table};
+use table::{Ledger, Refusal};
 
 /// The highest share price, in cents.
 const TOP_SHARE_PRICE: u32 = 2_000_000;
@@ -24,32 +22,27 @@ const TOP_CHARGES: u64 = 1_000_000_000;
 
 /// What is bought for an account that a slip is out for, or why it is not. The shelves have so many places.
 pub fn to_buy_in(
-    table: &Table,
-    first: usize,
-    second: usize,
+    ledger: &Ledger,
+    lengths: Lengths,
     account: u8,
     execution: Execution,
 ) -> Result<Purchase, Refusal>
-    requires sound { Sound table.now }
     requires known { account < account_places }
-    ensures { PurchaseFound (first_cause (buy_in_causes first second account execution table.now)) table.now first second account execution result }
+    ensures { PurchaseFound (first_cause (buy_in_causes lengths.first lengths.second account execution ledger.now.table)) ledger.now.table lengths.first lengths.second account execution result }
 {
-    if first != SHELF_PLACES || second != SHELF_PLACES {
+    if !lengths.are_whole() {
         return Err(Refusal::NoSuchPlace);
     }
-    if execution.share_price < 1
-        || execution.share_price > TOP_SHARE_PRICE
-        || execution.charges > TOP_CHARGES
-    {
+    if !(1..=TOP_SHARE_PRICE).contains(&execution.share_price) || execution.charges > TOP_CHARGES {
         return Err(Refusal::OutOfRange);
     }
     let Some(block_price) = BlockPrice::new(execution.block_price) else {
         return Err(Refusal::OutOfRange);
     };
-    if !is_set(table.slips, account) {
+    if !ledger.table.slips.contains(account) {
         return Err(Refusal::NoNotice);
     }
-    let Some(a) = table.account(account) else {
+    let Some(a) = ledger.account(account) else {
         return Err(Refusal::NoNotice);
     };
     let cost = cost(a.owed, execution.share_price, execution.charges);
@@ -89,19 +82,16 @@ fn lack(balance: i64, cost: u64) -> u64
 
 /// Strikes off the account's units, takes the cost off its balance and puts on what its pledges yielded, bars it, and closes
 /// its notice. Answers the balance.
-pub fn settle(table: &mut Table, account: u8, purchase: Purchase, yields: u64) -> i64
-    requires sound { Sound table.old }
+pub fn settle(ledger: &mut Ledger, account: u8, purchase: Purchase, yields: u64) -> i64
     requires known { account < account_places }
-    requires settles { Settles table.old account purchase yields }
+    requires settles { Settles ledger.old.table account purchase yields }
     ensures value { result ≡ settled purchase.account.balance purchase.cost yields }
-    ensures done { table.new ≡ bought_in account purchase.cost yields table.old }
-    ensures sound { Sound table.new }
-    ensures begun { Begun table.old → Begun table.new }
+    ensures done { ledger.new.table ≡ bought_in account purchase.cost yields ledger.old.table }
 {
     let balance = after(purchase.account.balance, purchase.cost, yields);
-    bar(&mut table.accounts[account as usize], balance);
-    table.notices = without_bit(table.notices, account);
-    table.slips = without_bit(table.slips, account);
+    bar(&mut ledger.table.accounts[account as usize], balance);
+    ledger.table.notices.remove(account);
+    ledger.table.slips.remove(account);
     balance
 }
 

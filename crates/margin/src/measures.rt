@@ -1,19 +1,19 @@
 // Sums with a sign, each in a function of its own.
-ghost use Rattle.std.specs.Prelude.{◌≡◌, ◌*◌, ◌≤◌, true, pos, ◌+ℤ◌, ◌≤ℤ◌, int_lt};
+ghost use Rattle.std.specs.Prelude.{◌≡◌, ◌≤◌, true, pos, ◌+ℤ◌, ◌≤ℤ◌, int_lt};
 ghost use Rattle.lending.specs.Measures.{top_floor};
 ghost use Rattle.lending.specs.Sound.{top_balance, lowest};
-ghost use Rattle.shelf.specs.Limits.{top_cover};
 ghost use Rattle.table.specs.Limits.{last_day};
 ghost use Rattle.margin.specs.Margins.{Lacks};
 
+use crate::pledged_cents::PledgedCents;
+
 /// Cover: the balance, and what the account's pledges cover.
-pub fn cover(balance: i64, pledged: u64) -> i64
+pub fn cover(balance: i64, pledged: PledgedCents) -> i64
     requires low { lowest last_day true ≤ℤ balance }
     requires high { balance ≤ℤ pos top_balance }
-    requires pledged { pledged ≤ 2 * top_cover }
-    ensures { result ≡ balance +ℤ pos pledged }
+    ensures { result ≡ balance +ℤ pos pledged.cents }
 {
-    balance + pledged as i64
+    balance + pledged.cents as i64
 }
 
 /// By how much cover is below a measure, if it is.

@@ -5,101 +5,88 @@ ghost use Rattle.shelf.specs.Limits.{top_cover, shelf_places};
 ghost use Rattle.table.specs.declared.hour.Hour.TheVariants.{Morning};
 ghost use Rattle.table.specs.Act.{Acted, Answered, Found, first as first_cause};
 ghost use Rattle.table.specs.Tables.{account_at, elevens};
-ghost use Rattle.table.specs.Sound.{Begun, Sound};
 ghost use Rattle.margin.specs.Margins.{Lacks, covered, short, target_on};
 ghost use Rattle.margin.specs.Notices.{Callable, Examinable, called, examine_causes, examined, short_among, ten_causes, wait_act};
 
+use crate::lengths::Lengths;
 use crate::measures::{cover, is_below, shortfall};
-use bits::{is_set, ones, with_bit, without_bit};
+use crate::pledged_cents::PledgedCents;
+use bits::Places;
 use lending::{Account, floor, target};
-use shelf::SHELF_PLACES;
-use table::{ACCOUNT_PLACES, Hour, Refusal, Table};
+use table::{ACCOUNT_PLACES, Hour, Ledger, Refusal};
 
 /// Whether ten may be called, with shelves of so many places.
-pub fn to_ten(table: &Table, first: usize, second: usize) -> Result<(), Refusal>
-    ensures answer { Answered (first_cause (ten_causes first second table.now)) tt result }
-    ensures known { OnOk result (Callable table.now first second) }
+pub fn to_ten(ledger: &Ledger, lengths: Lengths) -> Result<(), Refusal>
+    ensures answer { Answered (first_cause (ten_causes lengths.first lengths.second ledger.now.table)) tt result }
+    ensures known { OnOk result (Callable ledger.now.table lengths.first lengths.second) }
 {
-    if first != SHELF_PLACES || second != SHELF_PLACES {
+    if !lengths.are_whole() {
         return Err(Refusal::NoSuchPlace);
     }
-    let Hour::Morning = table.hour else {
+    if ledger.table.hour != Hour::Morning {
         return Err(Refusal::WrongHour);
-    };
+    }
     Ok(())
 }
 
 /// Begins the calling hour, with a notice for every account that is short, and answers how many there are. The pledges of
 /// each account cover so much.
-pub fn call_short(table: &mut Table, covers: &[u64]) -> u32
-    requires sound { Sound table.old }
-    requires hour { table.old.hour ≡ Morning }
+pub fn call_short(ledger: &mut Ledger, covers: &[u64]) -> u32
+    requires hour { ledger.old.table.hour ≡ Morning }
     requires length { length covers.now ≡ account_places }
     requires covers { (k : ℕ) → k < account_places → slice_index covers.now k ≤ 2 * top_cover }
-    ensures value { result ≡ count_ones (short_among table.old (λ k. slice_index covers.now k)) }
-    ensures done { table.new ≡ called table.old (short_among table.old (λ k. slice_index covers.now k)) }
-    ensures sound { Sound table.new }
-    ensures begun { Begun table.old → Begun table.new }
+    ensures value { result ≡ count_ones (short_among ledger.old.table (λ k. slice_index covers.now k)) }
+    ensures done { ledger.new.table ≡ called ledger.old.table (short_among ledger.old.table (λ k. slice_index covers.now k)) }
 {
-    let word = short_word(table, covers);
-    table.hour = Hour::Calling;
-    table.notices = word;
-    ones(word)
+    let short = short_places(ledger, covers);
+    ledger.table.hour = Hour::Calling;
+    ledger.table.notices = short;
+    short.len()
 }
 
-/// The word of the accounts that are short.
-fn short_word(table: &Table, covers: &[u64]) -> u64
-    requires sound { Sound table.now }
+/// The places of the accounts that are short.
+fn short_places(ledger: &Ledger, covers: &[u64]) -> Places
     requires length { length covers.now ≡ account_places }
     requires covers { (k : ℕ) → k < account_places → slice_index covers.now k ≤ 2 * top_cover }
-    ensures { result ≡ short_among table.now (λ k. slice_index covers.now k) }
+    ensures { result ≡ short_among ledger.now.table (λ k. slice_index covers.now k) }
 {
-    let mut word = 0;
-    for place in 0..ACCOUNT_PLACES {
-        if is_short(table, place, covers[place as usize]) {
-            word = with_bit(word, place);
+    let mut short = Places::none();
+    for (k, cents) in covers.iter().enumerate() {
+        let place = k as u8;
+        if is_short(ledger, place, PledgedCents { cents: *cents }) {
+            short.insert(place);
         }
     }
-    word
+    short
 }
 
 /// Whether the account at a place is short, its pledges covering so much.
-fn is_short(table: &Table, place: u8, pledged: u64) -> bool
-    requires sound { Sound table.now }
+fn is_short(ledger: &Ledger, place: u8, pledged: PledgedCents) -> bool
     requires place { place < account_places }
-    requires pledged { pledged ≤ 2 * top_cover }
-    ensures { result ≡ short table.now (account_at table.now place) pledged }
+    ensures { result ≡ short ledger.now.table (account_at ledger.now.table place) pledged.cents }
 {
-    match table.account(place) {
-        Some(a) => {
-            let floor = floor(a.owed, a.applied, table.price(a.security));
-            a.owed + a.applied > 0 && is_below(cover(a.balance, pledged), floor)
-        }
-        None => false,
-    }
+    let Some(a) = ledger.account(place) else {
+        return false;
+    };
+    let floor = floor(a.owed, a.applied, ledger.price(a.security));
+    a.owed + a.applied > 0 && is_below(cover(a.balance, pledged), floor)
 }
 
 /// The account at a place with an open notice that no slip holds, or why it is not examined.
-pub fn to_examine(
-    table: &Table,
-    first: usize,
-    second: usize,
-    account: u8,
-) -> Result<Account, Refusal>
-    requires { Sound table.now }
-    ensures found { Found (first_cause (examine_causes first second account table.now)) (account_at table.now account) result }
-    ensures known { IfOk result (λ a. Examinable table.now account a × (first ≡ shelf_places) × (second ≡ shelf_places)) }
+pub fn to_examine(ledger: &Ledger, lengths: Lengths, account: u8) -> Result<Account, Refusal>
+    ensures found { Found (first_cause (examine_causes lengths.first lengths.second account ledger.now.table)) (account_at ledger.now.table account) result }
+    ensures known { IfOk result (λ a. Examinable ledger.now.table account a × (lengths.first ≡ shelf_places) × (lengths.second ≡ shelf_places)) }
 {
-    if first != SHELF_PLACES || second != SHELF_PLACES || account >= ACCOUNT_PLACES {
+    if !lengths.are_whole() || account >= ACCOUNT_PLACES {
         return Err(Refusal::NoSuchPlace);
     }
-    let Hour::Calling = table.hour else {
+    if ledger.table.hour != Hour::Calling {
         return Err(Refusal::WrongHour);
-    };
-    let Some(a) = table.account(account) else {
+    }
+    let Some(a) = ledger.account(account) else {
         return Err(Refusal::PlaceEmpty);
     };
-    if !is_set(table.notices, account) || is_set(table.slips, account) {
+    if !ledger.table.notices.contains(account) || ledger.table.slips.contains(account) {
         return Err(Refusal::NoNotice);
     }
     Ok(a)
@@ -107,45 +94,36 @@ pub fn to_examine(
 
 /// Closes the notice of an account whose pledges cover so much, where its cover is at the target or above. Otherwise a slip
 /// is out for it, and what lacks is answered.
-pub fn examine(table: &mut Table, place: u8, a: Account, pledged: u64) -> Option<i64>
-    requires sound { Sound table.old }
-    requires known { Examinable table.old place a }
-    requires pledged { pledged ≤ 2 * top_cover }
-    ensures value { Lacks (target_on table.old (Some a)) (covered (Some a) pledged) result }
-    ensures done { table.new ≡ examined table.old place result }
-    ensures sound { Sound table.new }
-    ensures begun { Begun table.old → Begun table.new }
+pub fn examine(ledger: &mut Ledger, place: u8, a: Account, pledged: PledgedCents) -> Option<i64>
+    requires known { Examinable ledger.old.table place a }
+    ensures value { Lacks (target_on ledger.old.table (Some a)) (covered (Some a) pledged.cents) result }
+    ensures done { ledger.new.table ≡ examined ledger.old.table place result }
 {
-    let lack = lacking(table, a, pledged);
+    let lack = lacking(ledger, a, pledged);
     match lack {
-        Some(_) => table.slips = with_bit(table.slips, place),
-        None => table.notices = without_bit(table.notices, place),
+        Some(_) => ledger.table.slips.insert(place),
+        None => ledger.table.notices.remove(place),
     }
     lack
 }
 
 /// What an account's cover, its pledges covering so much, lacks to the target.
-fn lacking(table: &Table, a: Account, pledged: u64) -> Option<i64>
-    requires table { Sound table.now }
-    requires account { SoundAccount (elevens table.now) a }
-    requires pledged { pledged ≤ 2 * top_cover }
-    ensures { Lacks (target_on table.now (Some a)) (covered (Some a) pledged) result }
+fn lacking(ledger: &Ledger, a: Account, pledged: PledgedCents) -> Option<i64>
+    requires account { SoundAccount (elevens ledger.now.table) a }
+    ensures { Lacks (target_on ledger.now.table (Some a)) (covered (Some a) pledged.cents) result }
 {
-    let target = target(a.owed, a.applied, table.price(a.security));
+    let target = target(a.owed, a.applied, ledger.price(a.security));
     shortfall(target, cover(a.balance, pledged))
 }
 
 /// Takes back the slip that is out for an account; its notice stays open.
-pub fn wait(table: &mut Table, account: u8) -> Result<(), Refusal>
-    requires sound { Sound table.old }
+pub fn wait(ledger: &mut Ledger, account: u8) -> Result<(), Refusal>
     requires known { account < account_places }
-    ensures acted { Acted (wait_act account) table.old table.new result }
-    ensures sound { Sound table.new }
-    ensures begun { Begun table.old → Begun table.new }
+    ensures acted { Acted (wait_act account) ledger.old.table ledger.new.table result }
 {
-    if !is_set(table.slips, account) {
+    if !ledger.table.slips.contains(account) {
         return Err(Refusal::NoNotice);
     }
-    table.slips = without_bit(table.slips, account);
+    ledger.table.slips.remove(account);
     Ok(())
 }

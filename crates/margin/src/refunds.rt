@@ -2,31 +2,24 @@
 ghost use Rattle.std.specs.Prelude.{◌≡◌, IfOk, None};
 ghost use Rattle.table.specs.Act.{Found, first as first_cause};
 ghost use Rattle.table.specs.Tables.{account_at, with_account};
-ghost use Rattle.table.specs.Sound.{Begun, Sound};
 ghost use Rattle.margin.specs.Refunds.{Refundable, cents_of, refund_causes};
 
+use crate::lengths::Lengths;
 use lending::Account;
-use shelf::SHELF_PLACES;
-use table::{ACCOUNT_PLACES, Hour, Refusal, Table};
+use table::{ACCOUNT_PLACES, Hour, Ledger, Refusal};
 
 /// The account that is to be paid out and closed, or why it is not.
-pub fn to_refund(
-    table: &Table,
-    first: usize,
-    second: usize,
-    account: u8,
-) -> Result<Account, Refusal>
-    requires { Sound table.now }
-    ensures found { Found (first_cause (refund_causes first second account table.now)) (account_at table.now account) result }
-    ensures known { IfOk result (λ a. Refundable table.now account a) }
+pub fn to_refund(ledger: &Ledger, lengths: Lengths, account: u8) -> Result<Account, Refusal>
+    ensures found { Found (first_cause (refund_causes lengths.first lengths.second account ledger.now.table)) (account_at ledger.now.table account) result }
+    ensures known { IfOk result (λ a. Refundable ledger.now.table account a) }
 {
-    if first != SHELF_PLACES || second != SHELF_PLACES || account >= ACCOUNT_PLACES {
+    if !lengths.are_whole() || account >= ACCOUNT_PLACES {
         return Err(Refusal::NoSuchPlace);
     }
-    let Hour::Afternoon = table.hour else {
+    if ledger.table.hour != Hour::Afternoon {
         return Err(Refusal::WrongHour);
-    };
-    let Some(a) = table.account(account) else {
+    }
+    let Some(a) = ledger.account(account) else {
         return Err(Refusal::PlaceEmpty);
     };
     if a.owed + a.applied > 0 || a.balance < 0 {
@@ -36,14 +29,11 @@ pub fn to_refund(
 }
 
 /// Empties the account's place, and answers the balance that is paid.
-pub fn vacate(table: &mut Table, account: u8, a: Account) -> u64
-    requires sound { Sound table.old }
-    requires known { Refundable table.old account a }
+pub fn vacate(ledger: &mut Ledger, account: u8, a: Account) -> u64
+    requires known { Refundable ledger.old.table account a }
     ensures value { result ≡ cents_of a.balance }
-    ensures done { table.new ≡ with_account table.old account None }
-    ensures sound { Sound table.new }
-    ensures begun { Begun table.old → Begun table.new }
+    ensures done { ledger.new.table ≡ with_account ledger.old.table account None }
 {
-    table.accounts[account as usize] = None;
+    ledger.table.accounts[account as usize] = None;
     a.balance as u64
 }

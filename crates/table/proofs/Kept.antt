@@ -14,7 +14,6 @@ use Rattle.lending.specs.Sound.{SoundLoan, SoundBalance, SoundAccount, SoundAcco
 use Rattle.table.specs.contracts.hour.Hour.{the_type}
 use Rattle.table.specs.declared.hour.Hour.{Hour}
 use Rattle.table.specs.declared.hour.Hour.TheVariants as hour
-use Rattle.table.specs.declared.ledger.Ledger.{Ledger}
 use Rattle.table.specs.declared.table.Table.{Table}
 use Rattle.table.specs.Act.{first}
 use Rattle.table.specs.Tables.{account_at, offer_at, elevens, blank, calling, afternoon, taken, with_account, with_offer, blank_table}
@@ -30,21 +29,6 @@ use Rattle.table.proofs.Slots.{each_put, still_taken, of_some, of_none}
 cond_le : (b : Bool) (m n k : ℕ) → m ≤ k → n ≤ k → cond b m n ≤ k
 cond_le true m n k p q = p
 cond_le false m n k p q = q
-
--- a ledger's table is sound
-pub sound_of : (l : Ledger) → Sound l.table
-sound_of l = record {
-  dated = l.dated;
-  sized = l.sized;
-  priced = l.priced;
-  loans = l.loans;
-  balances = l.balances;
-  terms = l.terms;
-  earnings = l.earnings;
-  held = l.held;
-  noticed = l.noticed;
-  idle = l.idle;
-}
 
 module _ (t : Table) (s : Sound t) where
   -- a sound account put where there may be one

@@ -1,4 +1,5 @@
-ghost use Rattle.table.specs.Sound.{Begun, Dated, Sized, PricesBounded, Loans, Balances, Terms, Earnings, SlipsHeld, Noticed, Idle};
+ghost use Rattle.std.proofs.Props.{props};
+ghost use Rattle.table.specs.Sound.{Begun, Sound};
 
 use super::table::Table;
 
@@ -6,15 +7,6 @@ use super::table::Table;
 #[derive(Drop)]
 pub struct Ledger {
     pub table: Table,
-    ghost dated: { Dated table },
+    ghost sound: { Sound table } by { Prim.hlevel props },
     ghost begun: { Begun table },
-    ghost sized: { Sized table },
-    ghost priced: { PricesBounded table },
-    ghost loans: { Loans table },
-    ghost balances: { Balances table },
-    ghost terms: { Terms table },
-    ghost earnings: { Earnings table },
-    ghost held: { SlipsHeld table },
-    ghost noticed: { Noticed table },
-    ghost idle: { Idle table },
 }

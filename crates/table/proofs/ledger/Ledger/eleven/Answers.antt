@@ -6,19 +6,19 @@ use Rattle.lending.proofs.After.{accounts_later, offers_later}
 use Rattle.table.specs.declared.hour.Hour.TheVariants.{Calling}
 use Rattle.table.specs.Elevens.{struck}
 use Rattle.table.specs.Tables.{elevens, blank}
-use Rattle.table.proofs.Kept.{sound_of, kept_as, elevens_most, strikes, is_calling, struck_is, struck_kept}
+use Rattle.table.proofs.Kept.{kept_as, elevens_most, strikes, is_calling, struck_is, struck_kept}
 use Rattle.table.proofs.ledger.Ledger.eleven.Goals as goal
 
 pub eleven-answer-requires : goal.eleven-answer-requires
 eleven-answer-requires c =
     let l = c.args.self.now in
     let t = l.table in
-    let most : elevens t ≤ top_elevens = omega (arith, elevens_most t, l.dated) in
+    let most : elevens t ≤ top_elevens = omega (arith, elevens_most t, l.sound.dated) in
     record {
-      accounts = l.sized.0;
-      offers = l.sized.1;
-      loans = accounts_later (elevens t) top_elevens most t.accounts (λ k a e. (l.loans k a e, l.balances k a e));
-      lenders = offers_later (elevens t) top_elevens most t.offers (λ k o e. (l.terms k o e, l.earnings k o e));
+      accounts = l.sound.sized.0;
+      offers = l.sound.sized.1;
+      loans = accounts_later (elevens t) top_elevens most t.accounts (λ k a e. (l.sound.loans k a e, l.sound.balances k a e));
+      lenders = offers_later (elevens t) top_elevens most t.offers (λ k o e. (l.sound.terms k o e, l.sound.earnings k o e));
     }
 
 pub invariant_of-self-2 : goal.invariant_of-self-2
@@ -28,8 +28,8 @@ invariant_of-self-2 c =
     let calls : t.hour ≡ Calling = is_calling _ c.if-ne.ensures in
     let none : t.notices ≡ 0 = eqb-true t.notices 0 (sym c.if-not-is_empty.ensures) in
     let told = c.eleven-answer.ensures in
-    let s = kept_as (struck t) _ (struck_is t _ _ told.accounts told.offers) (struck_kept t (sound_of l) l.begun calls none) in
-    record { dated = s.dated; begun = (λ _. l.begun (ap blank calls)); sized = s.sized; priced = s.priced; loans = s.loans; balances = s.balances; terms = s.terms; earnings = s.earnings; held = s.held; noticed = s.noticed; idle = s.idle }
+    let s = kept_as (struck t) _ (struck_is t _ _ told.accounts told.offers) (struck_kept t l.sound l.begun calls none) in
+    record { sound = s; begun = (λ _. l.begun (ap blank calls)) }
 
 pub returns : goal.returns
 returns c =

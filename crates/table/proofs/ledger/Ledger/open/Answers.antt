@@ -1,7 +1,7 @@
 use Rattle.std.proofs.Common.{◌≡◌, sym, arith}
 use Rattle.std.proofs.lemmas.Bool.{both_ways}
 use Rattle.table.specs.declared.hour.Hour.TheVariants.{Calling}
-use Rattle.table.proofs.Kept.{sound_of, opened_kept}
+use Rattle.table.proofs.Kept.{opened_kept}
 use Rattle.table.proofs.ledger.Ledger.open.Goals.{in-Morning, in_default}
 use Rattle.table.proofs.ledger.Ledger.open.Goals as goal
 
@@ -9,5 +9,5 @@ pub invariant_of-self : goal.invariant_of-self
 invariant_of-self c =
     let l = c.args.self.now in
     let not_calling : (l.table.hour ≡ Calling → ⊥) = λ e. elim c.match-matches.branch [ in-Morning w ↦ both_ways _ c.if-matches.false w.matches-is | in_default w ↦ w.in_default.not-Calling e ] in
-    let s = opened_kept l.table (sound_of l) c.args.prices (sym c.if-not-all_priced.ensures) (omega arith) not_calling in
-    record { dated = s.dated; begun = (λ _. omega arith); sized = s.sized; priced = s.priced; loans = s.loans; balances = s.balances; terms = s.terms; earnings = s.earnings; held = s.held; noticed = s.noticed; idle = s.idle }
+    let s = opened_kept l.table l.sound c.args.prices (sym c.if-not-all_priced.ensures) (omega arith) not_calling in
+    record { sound = s; begun = (λ _. omega arith) }
