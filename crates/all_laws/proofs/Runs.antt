@@ -54,39 +54,39 @@ idle_watched b t u e idle = watched_as b t u e (unwatched b t idle)
 
 module _ {P Q : Type 0} (n : Numbers P) (m : Numbers Q) where
   watched_step : Rules n → Rules m → (w u : World P Q) → Call n m w u →
-      Watched (backing n m w.shelves) w.book.table → Watched (backing n m u.shelves) u.book.table
+      Watched (backing n m w.shelves) w.book.ledger.table → Watched (backing n m u.shelves) u.book.ledger.table
   watched_step rn rm w u (opens b prices (Ok x) d) before = idle_watched (backing n m w.shelves) _ _ d.2 refl
   watched_step rn rm w u (opens b prices (Err e) d) before = watched_as (backing n m w.shelves) _ _ d.1 before
   watched_step rn rm w u (enrols b account firm security (Ok x) d) before =
-      idle_watched (backing n m w.shelves) _ _ d.2 (in_morning w.book.table.hour (clear (enrol_causes account firm security w.book.table) d.0).1.1.0)
+      idle_watched (backing n m w.shelves) _ _ d.2 (in_morning w.book.ledger.table.hour (clear (enrol_causes account firm security w.book.ledger.table) d.0).1.1.0)
   watched_step rn rm w u (enrols b account firm security (Err e) d) before = watched_as (backing n m w.shelves) _ _ d.1 before
   watched_step rn rm w u (offers b place security units rate commission (Ok x) d) before =
-      idle_watched (backing n m w.shelves) _ _ d.2 (in_morning w.book.table.hour (clear (offer_causes place security units rate commission w.book.table) d.0).1.1.0)
+      idle_watched (backing n m w.shelves) _ _ d.2 (in_morning w.book.ledger.table.hour (clear (offer_causes place security units rate commission w.book.ledger.table) d.0).1.1.0)
   watched_step rn rm w u (offers b place security units rate commission (Err e) d) before = watched_as (backing n m w.shelves) _ _ d.1 before
   watched_step rn rm w u (withdraws b place (Ok x) d) before =
-      idle_watched (backing n m w.shelves) _ _ d.2 (in_morning w.book.table.hour (clear (withdraw_causes place w.book.table) d.0).1.0)
+      idle_watched (backing n m w.shelves) _ _ d.2 (in_morning w.book.ledger.table.hour (clear (withdraw_causes place w.book.ledger.table) d.0).1.0)
   watched_step rn rm w u (withdraws b place (Err e) d) before = watched_as (backing n m w.shelves) _ _ d.1 before
   watched_step rn rm w u (applies b account units (Ok x) d) before =
-      idle_watched (backing n m w.shelves) _ _ d.2 (in_morning w.book.table.hour (clear (apply_causes account units w.book.table) d.0).1.1.0)
+      idle_watched (backing n m w.shelves) _ _ d.2 (in_morning w.book.ledger.table.hour (clear (apply_causes account units w.book.ledger.table) d.0).1.1.0)
   watched_step rn rm w u (applies b account units (Err e) d) before = watched_as (backing n m w.shelves) _ _ d.1 before
   watched_step rn rm w u (returns b account units (Ok x) d) before =
-      idle_watched (backing n m w.shelves) _ _ d.2 (in_morning w.book.table.hour (clear (return_causes account units w.book.table) d.0).1.1.0)
+      idle_watched (backing n m w.shelves) _ _ d.2 (in_morning w.book.ledger.table.hour (clear (return_causes account units w.book.ledger.table) d.0).1.1.0)
   watched_step rn rm w u (returns b account units (Err e) d) before = watched_as (backing n m w.shelves) _ _ d.1 before
   watched_step rn rm w u (deposits b account cents (Ok z) d) before =
-      watched_as (backing n m w.shelves) _ _ d.2 (deposit_watched (backing n m w.shelves) w.book.table account cents before)
+      watched_as (backing n m w.shelves) _ _ d.2 (deposit_watched (backing n m w.shelves) w.book.ledger.table account cents before)
   watched_step rn rm w u (deposits b account cents (Err e) d) before = watched_as (backing n m w.shelves) _ _ d.1 before
   watched_step rn rm w u (pledges s account place p (Ok z) d) before =
-      subst (λ (x : Shelves P Q). Watched (backing n m x) w.book.table) (sym d.2) (pledge_watched n m w.book.table w.shelves account place p d.0 before)
+      subst (λ (x : Shelves P Q). Watched (backing n m x) w.book.ledger.table) (sym d.2) (pledge_watched n m w.book.ledger.table w.shelves account place p d.0 before)
   watched_step rn rm w u (pledges s account place p (Err e) d) before =
-      subst (λ (x : Shelves P Q). Watched (backing n m x) w.book.table) (sym d.1) before
+      subst (λ (x : Shelves P Q). Watched (backing n m x) w.book.ledger.table) (sym d.1) before
   watched_step rn rm w u (releases s shelf place (Ok z) d) before =
-      subst (λ (x : Shelves P Q). Watched (backing n m x) w.book.table) (sym d.2) (release_watched n m w.book.table w.shelves rn rm shelf place d.0 before)
+      subst (λ (x : Shelves P Q). Watched (backing n m x) w.book.ledger.table) (sym d.2) (release_watched n m w.book.ledger.table w.shelves rn rm shelf place d.0 before)
   watched_step rn rm w u (releases s shelf place (Err e) d) before =
-      subst (λ (x : Shelves P Q). Watched (backing n m x) w.book.table) (sym d.1) before
-  watched_step rn rm w u (tens b (Ok given) d) before = watched_as (backing n m w.shelves) _ _ d.2 (ten_watched (backing n m w.shelves) w.book.table)
+      subst (λ (x : Shelves P Q). Watched (backing n m x) w.book.ledger.table) (sym d.1) before
+  watched_step rn rm w u (tens b (Ok given) d) before = watched_as (backing n m w.shelves) _ _ d.2 (ten_watched (backing n m w.shelves) w.book.ledger.table)
   watched_step rn rm w u (tens b (Err e) d) before = watched_as (backing n m w.shelves) _ _ d.1 before
   watched_step rn rm w u (examines b account (Ok Met) d) before =
-      watched_as (backing n m w.shelves) _ _ d.2 (met_watched (backing n m w.shelves) w.book.table account d.1 before)
+      watched_as (backing n m w.shelves) _ _ d.2 (met_watched (backing n m w.shelves) w.book.ledger.table account d.1 before)
   watched_step rn rm w u (examines b account (Ok (Short lack slip)) d) before = watched_as (backing n m w.shelves) _ _ d.3 before
   watched_step rn rm w u (examines b account (Err e) d) before = watched_as (backing n m w.shelves) _ _ d.1 before
   watched_step rn rm w u (waits b slip (Ok x) d) before = watched_as (backing n m w.shelves) _ _ d.2 before
@@ -94,16 +94,16 @@ module _ {P Q : Type 0} (n : Numbers P) (m : Numbers Q) where
   watched_step rn rm w u (elevens b (Ok x) d) before = idle_watched (backing n m w.shelves) _ _ d.2 refl
   watched_step rn rm w u (elevens b (Err e) d) before = watched_as (backing n m w.shelves) _ _ d.1 before
   watched_step rn rm w u (pays_out b place (Ok x) d) before =
-      idle_watched (backing n m w.shelves) _ _ d.2 (in_afternoon w.book.table.hour (clear (pay_out_causes place w.book.table) d.0).1.0)
+      idle_watched (backing n m w.shelves) _ _ d.2 (in_afternoon w.book.ledger.table.hour (clear (pay_out_causes place w.book.ledger.table) d.0).1.0)
   watched_step rn rm w u (pays_out b place (Err e) d) before = watched_as (backing n m w.shelves) _ _ d.1 before
   watched_step rn rm w u (refunds b s account (Ok x) d) before =
-      idle_watched (backing n m s) _ _ (ap (λ z. z.table) d.2)
-      (in_afternoon w.book.table.hour (clear (refund_causes (length w.shelves.first) (length w.shelves.second) account w.book.table) d.0).1.0)
+      idle_watched (backing n m s) _ _ (ap (λ z. z.ledger.table) d.2)
+      (in_afternoon w.book.ledger.table.hour (clear (refund_causes (length w.shelves.first) (length w.shelves.second) account w.book.ledger.table) d.0).1.0)
   watched_step rn rm w u (refunds b s account (Err e) d) before =
-      subst (λ (z : State P Q). Watched (backing n m z.shelves) z.table) (sym d.1) before
+      subst (λ (z : State P Q). Watched (backing n m z.shelves) z.ledger.table) (sym d.1) before
 
-  watched_run : Rules n → Rules m → (w u : World P Q) → New w → Calls n m w u → Watched (backing n m u.shelves) u.book.table
-  watched_run rn rm w u new start = unwatched (backing n m w.shelves) w.book.table (ap (λ t. calling t.hour) new.blank)
+  watched_run : Rules n → Rules m → (w u : World P Q) → New w → Calls n m w u → Watched (backing n m u.shelves) u.book.ledger.table
+  watched_run rn rm w u new start = unwatched (backing n m w.shelves) w.book.ledger.table (ap (λ t. calling t.hour) new.blank)
   watched_run rn rm w u new (then t run call) = watched_step rn rm t u call (watched_run rn rm w t new run)
 
   -- what is short has units and cover below the floor
@@ -115,10 +115,10 @@ module _ {P Q : Type 0} (n : Numbers P) (m : Numbers Q) where
   added_up : (w u : World P Q) → New w → (run : Calls n m w u) → AddsUp n m run
   added_up w u new start = record {
     sum = λ k _.
-        let none : balance_at w.book.table k ≡ pos 0 = ap (λ t. balance_at t k) new.blank ∙ none_there 64 k in
+        let none : balance_at w.book.ledger.table k ≡ pos 0 = ap (λ t. balance_at t k) new.blank ∙ none_there 64 k in
         omega (arith, ints, none);
     earnings =
-        let none : earned w.book.table ≡ 0 = none_counted (λ o. both_parts (unpaid o)) 256 w.book.table.offers (ap (λ t. t.offers) new.blank) refl in
+        let none : earned w.book.ledger.table ≡ 0 = none_counted (λ o. both_parts (unpaid o)) 256 w.book.ledger.table.offers (ap (λ t. t.offers) new.blank) refl in
         omega (arith, none, none_charged nothing (λ _. refl));
     count = omega (arith, ap (λ t. ones t.notices) new.blank, ones_none);
   }
@@ -132,17 +132,17 @@ module _ {P Q : Type 0} (n : Numbers P) (m : Numbers Q) where
       }
 
   -- an examination finds met exactly what is at the target or above
-  finds : (w : World P Q) (b : Book) (account : ℕ) (found : Examined) → Examination (backing n m w.shelves) account w.book.table b.table (Ok found) →
+  finds : (w : World P Q) (b : Book) (account : ℕ) (found : Examined) → Examination (backing n m w.shelves) account w.book.ledger.table b.ledger.table (Ok found) →
       Decides (is_met found) (AtTarget n m w account)
   finds w b account Met d = (λ _. d.1, λ _. refl)
   finds w b account (Short lack slip) d = (λ e. absurd (false≢true e), λ reached. absurd (omega (arith, ints, d.1.0)))
 
   -- in the calling hour an account with units has an open notice, or cover at its floor or above
-  watches : Rules n → Rules m → (w u : World P Q) → New w → Calls n m w u → (k : ℕ) → k < account_places → calling u.book.table.hour ≡ true → HasUnits n m u k →
-      (bit u.book.table.notices k ≡ true) ⊎ AtFloor n m u k
+  watches : Rules n → Rules m → (w u : World P Q) → New w → Calls n m w u → (k : ℕ) → k < account_places → calling u.book.ledger.table.hour ≡ true → HasUnits n m u k →
+      (bit u.book.ledger.table.notices k ≡ true) ⊎ AtFloor n m u k
   watches rn rm w u new run k l in-calling units =
       let b : Backing = backing n m u.shelves in
-      let t : Table = u.book.table in
+      let t : Table = u.book.ledger.table in
       elim (cases_Bool (lt_z (cover_at b t k) (pos (floor_at t k)))) [
         | inl low ↦ inl (watched_run rn rm w u new run k l (and_from (calling t.hour) (short_at b t k) in-calling (and_from (ltb 0 (units_of (account_at t k))) (lt_z (cover_at b t k) (pos (floor_at t k))) (lt-ltb 0 (units_of (account_at t k)) units) low)))
         | inr reached ↦ inr (is_reached (cover_at b t k) (floor_at t k) reached)
@@ -152,13 +152,13 @@ module _ {P Q : Type 0} (n : Numbers P) (m : Numbers Q) where
   laws rn rm w u new run = record {
     adds_up = added_up w u new run;
     marked = λ b given d k l.
-        Decides-at (bit b.table.notices k) (short_at (backing n m u.shelves) u.book.table k)
-        (ap (λ t. bit t.notices k) d.2 ∙ bit_word (λ place. short_at (backing n m u.shelves) u.book.table place) account_places k l)
-        (decides_short (backing n m u.shelves) u.book.table k);
+        Decides-at (bit b.ledger.table.notices k) (short_at (backing n m u.shelves) u.book.ledger.table k)
+        (ap (λ t. bit t.notices k) d.2 ∙ bit_word (λ place. short_at (backing n m u.shelves) u.book.ledger.table place) account_places k l)
+        (decides_short (backing n m u.shelves) u.book.ledger.table k);
     found_met = finds u;
     watched = watches rn rm w u new run;
     clear_at_eleven = λ b answer d k l units.
-        let t : Table = u.book.table in
+        let t : Table = u.book.ledger.table in
         let ok = clear (eleven_causes t) d.0 in
         let none : t.notices ≡ 0 = eqb-true t.notices 0 (not-false (eqb t.notices 0) ok.1.0) in
         elim (watches rn rm w u new run k l (not-false (calling t.hour) ok.0) units) [

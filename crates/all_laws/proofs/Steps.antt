@@ -88,25 +88,25 @@ empty_earned None e = refl
 empty_earned (Some x) e = let z : ◌≡◌ {A = ℕ} 0 1 = cc in absurd (omega arith)
 
 module _ {P Q : Type 0} (n : Numbers P) (m : Numbers Q) where
-  pub moved : (w u : World P Q) (call : Call n m w u) → Moves w.book.table u.book.table (entry n m w u call)
+  pub moved : (w u : World P Q) (call : Call n m w u) → Moves w.book.ledger.table u.book.ledger.table (entry n m w u call)
   moved w u (opens b prices (Ok x) d) = still _ _ (λ k. ap (λ t. balance_at t k) d.2) (ap earned d.2) (ap (λ t. t.notices) d.2)
   moved w u (opens b prices (Err e) d) = same _ _ d.1
   moved w u (enrols b account firm security (Ok x) d) =
-      let s : Table = w.book.table in
+      let s : Table = w.book.ledger.table in
       let ok = clear (enrol_causes account firm security s) d.0 in
-      balances_stay s b.table account _ d.2 (empty_balance (account_at s account) ok.1.1.1.0)
+      balances_stay s b.ledger.table account _ d.2 (empty_balance (account_at s account) ok.1.1.1.0)
   moved w u (enrols b account firm security (Err e) d) = same _ _ d.1
   moved w u (offers b place security units rate commission (Ok x) d) =
-      let s : Table = w.book.table in
+      let s : Table = w.book.ledger.table in
       let ok = clear (offer_causes place security units rate commission s) d.0 in
-      let within : place < length s.offers = omega (arith, w.book.sized.1, leb-false offer_places place (or_parts _ _ ok.0).0) in
+      let within : place < length s.offers = omega (arith, w.book.ledger.sound.sized.1, leb-false offer_places place (or_parts _ _ ok.0).0) in
       let new : Option Offer = Some (offered security units rate commission) in
       let none-earned : earned (with_offer s place new) ≡ earned s = omega (arith, resummed (λ o. both_parts (unpaid o)) s.offers place new within, empty_earned (offer_at s place) ok.1.1.1.0) in
-      still s b.table (λ k. ap (λ t. balance_at t k) d.2) (ap earned d.2 ∙ none-earned) (ap (λ t. t.notices) d.2)
+      still s b.ledger.table (λ k. ap (λ t. balance_at t k) d.2) (ap earned d.2 ∙ none-earned) (ap (λ t. t.notices) d.2)
   moved w u (offers b place security units rate commission (Err e) d) = same _ _ d.1
   moved w u (withdraws b place (Ok p) d) =
-      let s : Table = w.book.table in
-      let within : place < length s.offers = omega (arith, w.book.sized.1, leb-false offer_places place (clear (withdraw_causes place s) d.0).0) in
+      let s : Table = w.book.ledger.table in
+      let within : place < length s.offers = omega (arith, w.book.ledger.sound.sized.1, leb-false offer_places place (clear (withdraw_causes place s) d.0).0) in
       let less : earned (with_offer s place None) + both_parts (unpaid (offer_at s place)) ≡ earned s = omega (arith, resummed (λ o. both_parts (unpaid o)) s.offers place None within) in
       record {
         sum = λ k. ap (λ t. balance_at t k +ℤ pos 0) d.2;
@@ -114,14 +114,14 @@ module _ {P Q : Type 0} (n : Numbers P) (m : Numbers Q) where
         count = omega (arith, ap (λ t. ones t.notices) d.2);
       }
   moved w u (withdraws b place (Err e) d) = same _ _ d.1
-  moved w u (applies b account units (Ok x) d) = balances_stay w.book.table b.table account _ d.2 (applied_balance _ (account_at w.book.table account))
+  moved w u (applies b account units (Ok x) d) = balances_stay w.book.ledger.table b.ledger.table account _ d.2 (applied_balance _ (account_at w.book.ledger.table account))
   moved w u (applies b account units (Err e) d) = same _ _ d.1
-  moved w u (returns b account units (Ok x) d) = balances_stay w.book.table b.table account _ d.2 (owed_balance _ (account_at w.book.table account))
+  moved w u (returns b account units (Ok x) d) = balances_stay w.book.ledger.table b.ledger.table account _ d.2 (owed_balance _ (account_at w.book.ledger.table account))
   moved w u (returns b account units (Err e) d) = same _ _ d.1
   moved w u (deposits b account cents (Ok z) d) =
-      let s : Table = w.book.table in
+      let s : Table = w.book.ledger.table in
       let ok = clear (deposit_causes account cents s) d.0 in
-      let within : account < length s.accounts = omega (arith, w.book.sized.0, leb-false account_places account ok.0) in
+      let within : account < length s.accounts = omega (arith, w.book.ledger.sound.sized.0, leb-false account_places account ok.0) in
       record {
         sum = λ k.
             let up = ap (λ t. balance_at t k) d.2 ∙ raised s.accounts account cents _ within (set_balance _ (account_at s account) ok.1.1.1.0) k in
@@ -133,8 +133,8 @@ module _ {P Q : Type 0} (n : Numbers P) (m : Numbers Q) where
   moved w u (pledges s account place p r d) = same _ _ refl
   moved w u (releases s shelf place r d) = same _ _ refl
   moved w u (tens b (Ok given) d) =
-      let s : Table = w.book.table in
-      let none : s.notices ≡ 0 = w.book.idle (in_morning s.hour (clear (ten_causes (length w.shelves.first) (length w.shelves.second) s) d.0).1.0) in
+      let s : Table = w.book.ledger.table in
+      let none : s.notices ≡ 0 = w.book.ledger.sound.idle (in_morning s.hour (clear (ten_causes (length w.shelves.first) (length w.shelves.second) s) d.0).1.0) in
       record {
         sum = λ k. ap (λ t. balance_at t k +ℤ pos 0) d.2;
         earnings = omega (arith, none_charged nothing (λ _. refl), ap earned d.2);
@@ -142,7 +142,7 @@ module _ {P Q : Type 0} (n : Numbers P) (m : Numbers Q) where
       }
   moved w u (tens b (Err e) d) = same _ _ d.1
   moved w u (examines b account (Ok Met) d) =
-      let s : Table = w.book.table in
+      let s : Table = w.book.ledger.table in
       let ok = clear (examine_causes (length w.shelves.first) (length w.shelves.second) account s) d.0 in
       let noticed = not-false (bit s.notices account) (or_parts _ _ ok.1.1.1.0).0 in
       let at_Target = cond-false {A = ℕ} _ 0 1 (reached _ _ d.1) in
@@ -162,22 +162,22 @@ module _ {P Q : Type 0} (n : Numbers P) (m : Numbers Q) where
   moved w u (waits b slip (Ok x) d) = still _ _ (λ k. ap (λ t. balance_at t k) d.2) (ap earned d.2) (ap (λ t. t.notices) d.2)
   moved w u (waits b slip (Err e) d) = same _ _ d.1
   moved w u (elevens b (Ok x) d) =
-      let s : Table = w.book.table in
-      let lenders : SoundOffers (so_far s) s.offers = λ k o e. (w.book.terms k o e, w.book.earnings k o e) in
-      let loans : SoundAccounts (so_far s) s.accounts = λ k a e. (w.book.loans k a e, w.book.balances k a e) in
+      let s : Table = w.book.ledger.table in
+      let lenders : SoundOffers (so_far s) s.offers = λ k o e. (w.book.ledger.sound.terms k o e, w.book.ledger.sound.earnings k o e) in
+      let loans : SoundAccounts (so_far s) s.accounts = λ k a e. (w.book.ledger.sound.loans k a e, w.book.ledger.sound.balances k a e) in
       record {
         sum = λ k.
             let less = ap (λ t. balance_at t k) d.2 ∙ balance_less s.accounts s.offers balance_of refl (λ _. refl) k in
             omega (arith, ints, less);
         earnings =
             let more = ap earned d.2 ∙ unpaid_all s.accounts s.offers (λ o. both_parts (unpaid o)) refl (λ _. refl) (so_far s) lenders in
-            omega (arith, more, all_charged (own_fee s.accounts s.offers) s.accounts w.book.sized.0, fees_are s.accounts s.offers (so_far s) loans);
+            omega (arith, more, all_charged (own_fee s.accounts s.offers) s.accounts w.book.ledger.sound.sized.0, fees_are s.accounts s.offers (so_far s) loans);
         count = omega (arith, ap (λ t. ones t.notices) d.2);
       }
   moved w u (elevens b (Err e) d) = same _ _ d.1
   moved w u (pays_out b place (Ok p) d) =
-      let s : Table = w.book.table in
-      let within : place < length s.offers = omega (arith, w.book.sized.1, leb-false offer_places place (clear (pay_out_causes place s) d.0).0) in
+      let s : Table = w.book.ledger.table in
+      let within : place < length s.offers = omega (arith, w.book.ledger.sound.sized.1, leb-false offer_places place (clear (pay_out_causes place s) d.0).0) in
       let less = resummed (λ o. both_parts (unpaid o)) s.offers place (option_map paid_out (offer_at s place)) within in
       record {
         sum = λ k. ap (λ t. balance_at t k +ℤ pos 0) d.2;
@@ -186,14 +186,14 @@ module _ {P Q : Type 0} (n : Numbers P) (m : Numbers Q) where
       }
   moved w u (pays_out b place (Err e) d) = same _ _ d.1
   moved w u (refunds b s account (Ok cents) d) =
-      let t : Table = w.book.table in
-      let after : b.table ≡ with_account t account None = ap (λ z. z.table) d.2 in
+      let t : Table = w.book.ledger.table in
+      let after : b.ledger.table ≡ with_account t account None = ap (λ z. z.ledger.table) d.2 in
       let ok = clear (refund_causes (length w.shelves.first) (length w.shelves.second) account t) d.0 in
-      let within : account < length t.accounts = omega (arith, w.book.sized.0, leb-false account_places account (or_parts _ _ ok.0).1) in
+      let within : account < length t.accounts = omega (arith, w.book.ledger.sound.sized.0, leb-false account_places account (or_parts _ _ ok.0).1) in
       let paid : (pos 0 +ℤ pos cents) ≡ balance_at t account = ap (λ (c : ℕ). pos 0 +ℤ pos c) d.1 ∙ credit (balance_at t account) (or_parts _ _ ok.1.1.1.0).1 in
       record {
         sum = λ k. omega (arith, ints, ap (λ (x : Table). balance_at x k) after, lowered t.accounts account cents None within paid k);
         earnings = omega (arith, none_charged nothing (λ _. refl), ap earned after);
         count = omega (arith, ap (λ (x : Table). ones x.notices) after);
       }
-  moved w u (refunds b s account (Err e) d) = same _ _ (ap (λ z. z.table) d.1)
+  moved w u (refunds b s account (Err e) d) = same _ _ (ap (λ z. z.ledger.table) d.1)

@@ -22,21 +22,21 @@ use Rattle.all_laws.specs.Worlds.{World, with_book, with_shelves, world, state_o
 module _ {P Q : Type 0} (n : Numbers P) (m : Numbers Q) where
   -- one call on the book of a world; its last argument is what the call promises
   pub data Call (w : World P Q) : World P Q → Type 0 where
-    opens : (b : Book) (prices : List ℕ) (r : Result ℕ Refusal) → Acted (open_act prices) w.book.table b.table r → Call w (with_book w b)
-    enrols : (b : Book) (account firm security : ℕ) (r : Result (Unit {0}) Refusal) → Acted (enrol_act account firm security) w.book.table b.table r → Call w (with_book w b)
-    offers : (b : Book) (place security units rate commission : ℕ) (r : Result (Unit {0}) Refusal) → Acted (offer_act place security units rate commission) w.book.table b.table r → Call w (with_book w b)
-    withdraws : (b : Book) (place : ℕ) (r : Result (ℕ × ℕ) Refusal) → Acted (withdraw_act place) w.book.table b.table r → Call w (with_book w b)
-    applies : (b : Book) (account units : ℕ) (r : Result ℕ Refusal) → Acted (apply_act account units) w.book.table b.table r → Call w (with_book w b)
-    returns : (b : Book) (account units : ℕ) (r : Result ℕ Refusal) → Acted (return_act account units) w.book.table b.table r → Call w (with_book w b)
-    deposits : (b : Book) (account cents : ℕ) (r : Result ℤ Refusal) → Acted (deposit_act account cents) w.book.table b.table r → Call w (with_book w b)
-    pledges : (s : Shelves P Q) (account place : ℕ) (p : Pledged P Q) (r : Result ℤ Refusal) → Acted (pledge_act n m w.book.table account place p) w.shelves s r → Call w (with_shelves w s)
-    releases : (s : Shelves P Q) (shelf place : ℕ) (r : Result ℤ Refusal) → Acted (release_act n m w.book.table shelf place) w.shelves s r → Call w (with_shelves w s)
-    tens : (b : Book) (r : Result ℕ Refusal) → Acted (ten_act (backing n m w.shelves)) w.book.table b.table r → Call w (with_book w b)
-    examines : (b : Book) (account : ℕ) (r : Result Examined Refusal) → Examination (backing n m w.shelves) account w.book.table b.table r → Call w (with_book w b)
-    elevens : (b : Book) (r : Result (ℕ × ℕ) Refusal) → Acted eleven_act w.book.table b.table r → Call w (with_book w b)
-    pays_out : (b : Book) (place : ℕ) (r : Result (ℕ × ℕ) Refusal) → Acted (pay_out_act place) w.book.table b.table r → Call w (with_book w b)
-    waits : (b : Book) (slip : Slip) (r : Result (Unit {0}) Refusal) → Acted (wait_act slip.account) w.book.table b.table r → Call w (with_book w b)
-    refunds : (b : Book) (s : Shelves P Q) (account : ℕ) (r : Result ℕ Refusal) → Acted (refund_act account) (state_of w) (state b.table s) r → Call w (world b s)
+    opens : (b : Book) (prices : List ℕ) (r : Result ℕ Refusal) → Acted (open_act prices) w.book.ledger.table b.ledger.table r → Call w (with_book w b)
+    enrols : (b : Book) (account firm security : ℕ) (r : Result (Unit {0}) Refusal) → Acted (enrol_act account firm security) w.book.ledger.table b.ledger.table r → Call w (with_book w b)
+    offers : (b : Book) (place security units rate commission : ℕ) (r : Result (Unit {0}) Refusal) → Acted (offer_act place security units rate commission) w.book.ledger.table b.ledger.table r → Call w (with_book w b)
+    withdraws : (b : Book) (place : ℕ) (r : Result (ℕ × ℕ) Refusal) → Acted (withdraw_act place) w.book.ledger.table b.ledger.table r → Call w (with_book w b)
+    applies : (b : Book) (account units : ℕ) (r : Result ℕ Refusal) → Acted (apply_act account units) w.book.ledger.table b.ledger.table r → Call w (with_book w b)
+    returns : (b : Book) (account units : ℕ) (r : Result ℕ Refusal) → Acted (return_act account units) w.book.ledger.table b.ledger.table r → Call w (with_book w b)
+    deposits : (b : Book) (account cents : ℕ) (r : Result ℤ Refusal) → Acted (deposit_act account cents) w.book.ledger.table b.ledger.table r → Call w (with_book w b)
+    pledges : (s : Shelves P Q) (account place : ℕ) (p : Pledged P Q) (r : Result ℤ Refusal) → Acted (pledge_act n m w.book.ledger.table account place p) w.shelves s r → Call w (with_shelves w s)
+    releases : (s : Shelves P Q) (shelf place : ℕ) (r : Result ℤ Refusal) → Acted (release_act n m w.book.ledger.table shelf place) w.shelves s r → Call w (with_shelves w s)
+    tens : (b : Book) (r : Result ℕ Refusal) → Acted (ten_act (backing n m w.shelves)) w.book.ledger.table b.ledger.table r → Call w (with_book w b)
+    examines : (b : Book) (account : ℕ) (r : Result Examined Refusal) → Examination (backing n m w.shelves) account w.book.ledger.table b.ledger.table r → Call w (with_book w b)
+    elevens : (b : Book) (r : Result (ℕ × ℕ) Refusal) → Acted eleven_act w.book.ledger.table b.ledger.table r → Call w (with_book w b)
+    pays_out : (b : Book) (place : ℕ) (r : Result (ℕ × ℕ) Refusal) → Acted (pay_out_act place) w.book.ledger.table b.ledger.table r → Call w (with_book w b)
+    waits : (b : Book) (slip : Slip) (r : Result (Unit {0}) Refusal) → Acted (wait_act slip.account) w.book.ledger.table b.ledger.table r → Call w (with_book w b)
+    refunds : (b : Book) (s : Shelves P Q) (account : ℕ) (r : Result ℕ Refusal) → Acted (refund_act account) (state_of w) (state b.ledger.table s) r → Call w (world b s)
 
   -- calls one after another: each picks up book and shelves as the one before put them down
   pub data Calls : World P Q → World P Q → Type 0 where

@@ -87,7 +87,7 @@ module _ {P Q : Type 0} (n : Numbers P) (m : Numbers Q) where
         paid = 0;
         issued = 0;
         bought = 0;
-        met = cond (int_lt (cover_at (backing n m w.shelves) w.book.table account) (pos (target_at w.book.table account))) 0 1;
+        met = cond (int_lt (cover_at (backing n m w.shelves) w.book.ledger.table account) (pos (target_at w.book.ledger.table account))) 0 1;
       }
   entry w u (examines b account (Err e) d) = no_entry
   entry w u (waits b slip r d) = no_entry
@@ -102,7 +102,7 @@ module _ {P Q : Type 0} (n : Numbers P) (m : Numbers Q) where
         issued = 0;
         met = 0;
         bought = 0;
-        fee = own_fee w.book.table.accounts w.book.table.offers;
+        fee = own_fee w.book.ledger.table.accounts w.book.ledger.table.offers;
       }
   entry w u (elevens b (Err e) d) = no_entry
   entry w u (pays_out b place (Ok p) d) =

@@ -24,42 +24,42 @@ is_met (Short lack slip) = false
 module _ {P Q : Type 0} (n : Numbers P) (m : Numbers Q) where
   -- the account at a place has units, owed or applied for
   abbrev pub HasUnits : World P Q → ℕ → Type 0
-  HasUnits w k = 0 < units_of (account_at w.book.table k)
+  HasUnits w k = 0 < units_of (account_at w.book.ledger.table k)
 
   -- its cover is below its floor, at its floor or above, at its target or above
   abbrev pub BelowFloor : World P Q → ℕ → Type 0
-  BelowFloor w k = cover_at (backing n m w.shelves) w.book.table k <ℤ pos (floor_at w.book.table k)
+  BelowFloor w k = cover_at (backing n m w.shelves) w.book.ledger.table k <ℤ pos (floor_at w.book.ledger.table k)
 
   abbrev pub AtFloor : World P Q → ℕ → Type 0
-  AtFloor w k = pos (floor_at w.book.table k) ≤ℤ cover_at (backing n m w.shelves) w.book.table k
+  AtFloor w k = pos (floor_at w.book.ledger.table k) ≤ℤ cover_at (backing n m w.shelves) w.book.ledger.table k
 
   abbrev pub AtTarget : World P Q → ℕ → Type 0
-  AtTarget w k = pos (target_at w.book.table k) ≤ℤ cover_at (backing n m w.shelves) w.book.table k
+  AtTarget w k = pos (target_at w.book.ledger.table k) ≤ℤ cover_at (backing n m w.shelves) w.book.ledger.table k
 
   -- what a run adds up to
   pub record AddsUp {w u : World P Q} (run : Calls n m w u) : Type 0 where
     -- at each account place: deposits and yields are fees, costs, refunds and what is there
     pub sum : (k : ℕ) → k < account_places →
         (pos (sum_over n m (λ e. e.deposit k) run + sum_over n m (λ e. e.yield k) run)
-        ≡ (pos (sum_over n m (λ e. e.fee k) run + sum_over n m (λ e. e.cost k) run + sum_over n m (λ e. e.refund k) run) +ℤ balance_at u.book.table k))
+        ≡ (pos (sum_over n m (λ e. e.fee k) run + sum_over n m (λ e. e.cost k) run + sum_over n m (λ e. e.refund k) run) +ℤ balance_at u.book.ledger.table k))
     -- all fees were paid to lenders and brokers, or are still owed to them
-    pub earnings : all_places (λ k. sum_over n m (λ e. e.fee k) run) ≡ sum_over n m (λ e. e.paid) run + earned u.book.table
+    pub earnings : all_places (λ k. sum_over n m (λ e. e.fee k) run) ≡ sum_over n m (λ e. e.paid) run + earned u.book.ledger.table
     -- every notice was met, was bought in, or is open
-    pub count : sum_over n m (λ e. e.issued) run ≡ sum_over n m (λ e. e.met) run + sum_over n m (λ e. e.bought) run + count_ones u.book.table.notices
+    pub count : sum_over n m (λ e. e.issued) run ≡ sum_over n m (λ e. e.met) run + sum_over n m (λ e. e.bought) run + count_ones u.book.ledger.table.notices
 
   pub record Laws {w u : World P Q} (run : Calls n m w u) : Type 0 where
     pub adds_up : AddsUp run
     -- a ten that is accepted next gives account k a notice exactly where it has units and cover below its floor
-    pub marked : (b : Book) (given : ℕ) → Acted (ten_act (backing n m u.shelves)) u.book.table b.table (Ok given) →
-        (k : ℕ) → k < account_places → Decides (bit b.table.notices k) (HasUnits u k × BelowFloor u k)
+    pub marked : (b : Book) (given : ℕ) → Acted (ten_act (backing n m u.shelves)) u.book.ledger.table b.ledger.table (Ok given) →
+        (k : ℕ) → k < account_places → Decides (bit b.ledger.table.notices k) (HasUnits u k × BelowFloor u k)
     -- an examine that is accepted next finds the notice met exactly where cover is at the target or above
-    pub found_met : (b : Book) (account : ℕ) (found : Examined) → Examination (backing n m u.shelves) account u.book.table b.table (Ok found) →
+    pub found_met : (b : Book) (account : ℕ) (found : Examined) → Examination (backing n m u.shelves) account u.book.ledger.table b.ledger.table (Ok found) →
         Decides (is_met found) (AtTarget u account)
     -- in the calling hour an account with units has an open notice, or cover at its floor or above
-    pub watched : (k : ℕ) → k < account_places → calling u.book.table.hour ≡ true → HasUnits u k →
-        (bit u.book.table.notices k ≡ true) ⊎ AtFloor u k
+    pub watched : (k : ℕ) → k < account_places → calling u.book.ledger.table.hour ≡ true → HasUnits u k →
+        (bit u.book.ledger.table.notices k ≡ true) ⊎ AtFloor u k
     -- where an eleven is accepted next, no account with units has cover below its floor
-    pub clear_at_eleven : (b : Book) (answer : ℕ × ℕ) → Acted eleven_act u.book.table b.table (Ok answer) →
+    pub clear_at_eleven : (b : Book) (answer : ℕ × ℕ) → Acted eleven_act u.book.ledger.table b.ledger.table (Ok answer) →
         (k : ℕ) → k < account_places → HasUnits u k → AtFloor u k
 
   -- of every run from a new world

@@ -22,9 +22,9 @@ world b s = record { book = b; shelves = s }
 
 -- its table and shelves
 abbrev pub state_of : {P Q : Type 0} → World P Q → State P Q
-state_of w = state w.book.table w.shelves
+state_of w = state w.book.ledger.table w.shelves
 
 -- a blank book and empty shelves
 pub record New {P Q : Type 0} (w : World P Q) : Type 0 where
-  pub blank : w.book.table ≡ blank_table
+  pub blank : w.book.ledger.table ≡ blank_table
   pub empty : w.shelves ≡ both (replicate shelf_places None) (replicate shelf_places None)

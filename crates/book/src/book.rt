@@ -1,8 +1,7 @@
 ghost use Rattle.std.specs.Prelude.{◌≡◌};
 ghost use Rattle.table.specs.Tables.{blank_table};
-ghost use Rattle.table.specs.Sound.{Begun, Dated, Sized, PricesBounded, Loans, Balances, Terms, Earnings, SlipsHeld, Noticed, Idle};
 
-use table::Table;
+use table::Ledger;
 
 mod buy_ins;
 mod calls;
@@ -12,30 +11,19 @@ mod questions;
 mod refunds;
 mod slips;
 
-/// A table of which everything always holds that a table's soundness asks.
+/// A ledger that only the calls can change.
 #[derive(Drop)]
 pub struct Book {
-    table: Table,
-    ghost dated: { Dated table },
-    ghost begun: { Begun table },
-    ghost sized: { Sized table },
-    ghost priced: { PricesBounded table },
-    ghost loans: { Loans table },
-    ghost balances: { Balances table },
-    ghost terms: { Terms table },
-    ghost earnings: { Earnings table },
-    ghost held: { SlipsHeld table },
-    ghost noticed: { Noticed table },
-    ghost idle: { Idle table },
+    ledger: Ledger,
 }
 
 impl Book {
     /// A blank book on day 0, with every place empty.
     pub fn new() -> Book
-        ensures { result.table ≡ blank_table }
+        ensures { result.ledger.table ≡ blank_table }
     {
         Book {
-            table: Table::blank(),
+            ledger: Ledger::blank(),
         }
     }
 }

@@ -32,10 +32,10 @@ module _ {P Q : Type 0} (n : Numbers P) (m : Numbers Q) where
   pub laws : (w u : World P Q) → New w → (run : Calls n m w u) → Laws n m run
   laws w u new start = record {
     sum = λ k _.
-        let none : balance_at w.book.table k ≡ pos 0 = ap (λ t. balance_at t k) new.blank ∙ none_there 64 k in
+        let none : balance_at w.book.ledger.table k ≡ pos 0 = ap (λ t. balance_at t k) new.blank ∙ none_there 64 k in
         omega (arith, ints, none);
     earnings =
-        let none : earned w.book.table ≡ 0 = ap earned new.blank ∙ none_counted (λ o. both (unpaid o)) 256 refl in
+        let none : earned w.book.ledger.table ≡ 0 = ap earned new.blank ∙ none_counted (λ o. both (unpaid o)) 256 refl in
         omega (arith, none, none_charged (λ _. 0) (λ _. refl));
     count = omega (arith, ap (λ t. ones t.notices) new.blank, ones_none);
   }

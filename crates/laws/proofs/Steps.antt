@@ -68,7 +68,7 @@ empty_earned (Some x) e = let z : ◌≡◌ {A = ℕ} 0 1 = cc in absurd (omega 
 
 module _ {P Q : Type 0} (n : Numbers P) (m : Numbers Q) where
   abbrev pub Moved : (w u : World P Q) → Call n m w u → Type 0
-  Moved w u call = Moves w.book.table u.book.table
+  Moved w u call = Moves w.book.ledger.table u.book.ledger.table
       (λ k. deposited n m k w u call) (λ k. yielded n m k w u call) (λ k. charged n m k w u call) (λ k. cost n m k w u call) (λ k. refunded n m k w u call)
       (paid_by n m w u call) (issued_by n m w u call) (met_by n m w u call) (bought_by n m w u call)
 
@@ -76,21 +76,21 @@ module _ {P Q : Type 0} (n : Numbers P) (m : Numbers Q) where
   moved w u (opens b prices (Ok x) d) = still _ _ (λ k. ap (λ t. balance_at t k) d.2) (ap earned d.2) (ap (λ t. t.notices) d.2)
   moved w u (opens b prices (Err e) d) = same _ _ d.1
   moved w u (enrols b account firm security (Ok x) d) =
-      let s : Table = w.book.table in
+      let s : Table = w.book.ledger.table in
       let ok = clear (enrol_causes account firm security s) d.0 in
-      balances_stay s b.table account _ d.2 (empty_balance (account_at s account) ok.1.1.1.0)
+      balances_stay s b.ledger.table account _ d.2 (empty_balance (account_at s account) ok.1.1.1.0)
   moved w u (enrols b account firm security (Err e) d) = same _ _ d.1
   moved w u (offers b place security units rate commission (Ok x) d) =
-      let s : Table = w.book.table in
+      let s : Table = w.book.ledger.table in
       let ok = clear (offer_causes place security units rate commission s) d.0 in
-      let within : place < length s.offers = omega (arith, w.book.sized.1, leb-false offer_places place (or_parts _ _ ok.0).0) in
+      let within : place < length s.offers = omega (arith, w.book.ledger.sound.sized.1, leb-false offer_places place (or_parts _ _ ok.0).0) in
       let new : Option Offer = Some (offered security units rate commission) in
       let none-earned : earned (with_offer s place new) ≡ earned s = omega (arith, resummed (λ o. both (unpaid o)) s.offers place new within, empty_earned (offer_at s place) ok.1.1.1.0) in
-      still s b.table (λ k. ap (λ t. balance_at t k) d.2) (ap earned d.2 ∙ none-earned) (ap (λ t. t.notices) d.2)
+      still s b.ledger.table (λ k. ap (λ t. balance_at t k) d.2) (ap earned d.2 ∙ none-earned) (ap (λ t. t.notices) d.2)
   moved w u (offers b place security units rate commission (Err e) d) = same _ _ d.1
   moved w u (withdraws b place (Ok p) d) =
-      let s : Table = w.book.table in
-      let within : place < length s.offers = omega (arith, w.book.sized.1, leb-false offer_places place (clear (withdraw_causes place s) d.0).0) in
+      let s : Table = w.book.ledger.table in
+      let within : place < length s.offers = omega (arith, w.book.ledger.sound.sized.1, leb-false offer_places place (clear (withdraw_causes place s) d.0).0) in
       let less : earned (with_offer s place None) + both (unpaid (offer_at s place)) ≡ earned s = omega (arith, resummed (λ o. both (unpaid o)) s.offers place None within) in
       record {
         sum = λ k. ap (λ t. balance_at t k +ℤ pos 0) d.2;
@@ -98,14 +98,14 @@ module _ {P Q : Type 0} (n : Numbers P) (m : Numbers Q) where
         count = omega (arith, ap (λ t. ones t.notices) d.2);
       }
   moved w u (withdraws b place (Err e) d) = same _ _ d.1
-  moved w u (applies b account units (Ok x) d) = balances_stay w.book.table b.table account _ d.2 (applied_balance _ (account_at w.book.table account))
+  moved w u (applies b account units (Ok x) d) = balances_stay w.book.ledger.table b.ledger.table account _ d.2 (applied_balance _ (account_at w.book.ledger.table account))
   moved w u (applies b account units (Err e) d) = same _ _ d.1
-  moved w u (returns b account units (Ok x) d) = balances_stay w.book.table b.table account _ d.2 (owed_balance _ (account_at w.book.table account))
+  moved w u (returns b account units (Ok x) d) = balances_stay w.book.ledger.table b.ledger.table account _ d.2 (owed_balance _ (account_at w.book.ledger.table account))
   moved w u (returns b account units (Err e) d) = same _ _ d.1
   moved w u (deposits b account cents (Ok z) d) =
-      let s : Table = w.book.table in
+      let s : Table = w.book.ledger.table in
       let ok = clear (deposit_causes account cents s) d.0 in
-      let within : account < length s.accounts = omega (arith, w.book.sized.0, leb-false account_places account ok.0) in
+      let within : account < length s.accounts = omega (arith, w.book.ledger.sound.sized.0, leb-false account_places account ok.0) in
       record {
         sum = λ k.
             let up = ap (λ t. balance_at t k) d.2 ∙ raised s.accounts account cents _ within (set_balance _ (account_at s account) ok.1.1.1.0) k in

@@ -16,6 +16,6 @@ with_book w b = record { book = b; first = w.first; second = w.second }
 
 -- a blank book and empty shelves
 pub record New {P Q : Type 0} (w : World P Q) : Type 0 where
-  pub blank : w.book.table ≡ blank_table
+  pub blank : w.book.ledger.table ≡ blank_table
   pub first_empty : w.first ≡ replicate shelf_places None
   pub second_empty : w.second ≡ replicate shelf_places None

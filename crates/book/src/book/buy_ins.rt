@@ -9,7 +9,7 @@ use crate::book::Book;
 use crate::handed_back::HandedBack;
 use crate::slip::Slip;
 use draw::draw_on;
-use margin::{Execution, Purchase, settle, to_buy_in};
+use margin::{Execution, Lengths, Purchase, settle, to_buy_in};
 use pledge::Pledge;
 use shelf::Held;
 
@@ -24,13 +24,15 @@ impl Book {
         slip: Slip,
         execution: Execution,
     ) -> Result<(u16, i64), HandedBack>
-        ensures acted { ActedOn slip (buy_in_act P.Pledge.numbers Q.Pledge.numbers slip.account execution) (state self.old.table (both first.old second.old)) (state self.new.table (both first.new second.new)) result }
-        ensures drawn { OnOk result (DrawnByRules P.Pledge.numbers Q.Pledge.numbers slip.account execution (state self.old.table (both first.old second.old))) }
+        ensures acted { ActedOn slip (buy_in_act P.Pledge.numbers Q.Pledge.numbers slip.account execution) (state self.old.ledger.table (both first.old second.old)) (state self.new.ledger.table (both first.new second.new)) result }
+        ensures drawn { OnOk result (DrawnByRules P.Pledge.numbers Q.Pledge.numbers slip.account execution (state self.old.ledger.table (both first.old second.old))) }
     {
         let purchase = match to_buy_in(
-            &self.table,
-            first.len(),
-            second.len(),
+            &self.ledger,
+            Lengths {
+                first: first.len(),
+                second: second.len(),
+            },
             slip.account,
             execution,
         ) {
@@ -38,8 +40,8 @@ impl Book {
             Err(why) => return Err(HandedBack { why, slip }),
         };
         let Slip { account } = slip;
-        let yields = draw_both(first, second, account, self.table.day, purchase);
-        let balance = settle(&mut self.table, account, purchase, yields);
+        let yields = draw_both(first, second, account, self.ledger.table.day, purchase);
+        let balance = settle(&mut self.ledger, account, purchase, yields);
         Ok((purchase.account.owed, balance))
     }
 }

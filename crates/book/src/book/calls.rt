@@ -11,16 +11,16 @@ use table::Refusal;
 impl Book {
     /// Begins the next day with the prices of its eight securities, in cents for each share. Answers the day.
     pub fn open(&mut self, prices: [u32; 8]) -> Result<u16, Refusal>
-        ensures { Acted (open_act prices) self.old.table self.new.table result }
+        ensures { Acted (open_act prices) self.old.ledger.table self.new.ledger.table result }
     {
-        self.table.open(prices)
+        self.ledger.open(prices)
     }
 
     /// Gives an account place to a firm and a security, at balance 0.
     pub fn enrol(&mut self, account: u8, firm: u16, security: u8) -> Result<(), Refusal>
-        ensures { Acted (enrol_act account firm security) self.old.table self.new.table result }
+        ensures { Acted (enrol_act account firm security) self.old.ledger.table self.new.ledger.table result }
     {
-        self.table.enrol(account, firm, security)
+        self.ledger.enrol(account, firm, security)
     }
 
     /// Records an offer of units of a security, at a rate in cents for each share and day and the broker's commission in
@@ -33,50 +33,50 @@ impl Book {
         rate: u32,
         commission: u8,
     ) -> Result<(), Refusal>
-        ensures { Acted (offer_act place security units rate commission) self.old.table self.new.table result }
+        ensures { Acted (offer_act place security units rate commission) self.old.ledger.table self.new.ledger.table result }
     {
-        self.table.offer(place, security, units, rate, commission)
+        self.ledger.offer(place, security, units, rate, commission)
     }
 
     /// Ends an offer. Answers its unpaid earnings, the lender's part and the broker's.
     pub fn withdraw(&mut self, place: u16) -> Result<(u64, u64), Refusal>
-        ensures { Acted (withdraw_act place) self.old.table self.new.table result }
+        ensures { Acted (withdraw_act place) self.old.ledger.table self.new.ledger.table result }
     {
-        self.table.withdraw(place)
+        self.ledger.withdraw(place)
     }
 
     /// Applies for units more. Answers all applied.
     pub fn apply(&mut self, account: u8, units: u16) -> Result<u16, Refusal>
-        ensures { Acted (apply_act account units) self.old.table self.new.table result }
+        ensures { Acted (apply_act account units) self.old.ledger.table self.new.ledger.table result }
     {
-        self.table.apply(account, units)
+        self.ledger.apply(account, units)
     }
 
     /// Takes units off the owed ones. Answers the rest. (The call is named return, which is a word of the language.)
     pub fn return_units(&mut self, account: u8, units: u16) -> Result<u16, Refusal>
-        ensures { Acted (return_act account units) self.old.table self.new.table result }
+        ensures { Acted (return_act account units) self.old.ledger.table self.new.ledger.table result }
     {
-        self.table.return_units(account, units)
+        self.ledger.return_units(account, units)
     }
 
     /// Puts cents on an account. Answers the balance.
     pub fn deposit(&mut self, account: u8, cents: u64) -> Result<i64, Refusal>
-        ensures { Acted (deposit_act account cents) self.old.table self.new.table result }
+        ensures { Acted (deposit_act account cents) self.old.ledger.table self.new.ledger.table result }
     {
-        self.table.deposit(account, cents)
+        self.ledger.deposit(account, cents)
     }
 
     /// Lends, charges and begins the afternoon. Answers all fees and all voucher units.
     pub fn eleven(&mut self) -> Result<(u64, u64), Refusal>
-        ensures { Acted eleven_act self.old.table self.new.table result }
+        ensures { Acted eleven_act self.old.ledger.table self.new.ledger.table result }
     {
-        self.table.eleven()
+        self.ledger.eleven()
     }
 
     /// Pays what an offer earned. Answers the lender's part and the broker's.
     pub fn pay_out(&mut self, place: u16) -> Result<(u64, u64), Refusal>
-        ensures { Acted (pay_out_act place) self.old.table self.new.table result }
+        ensures { Acted (pay_out_act place) self.old.ledger.table self.new.ledger.table result }
     {
-        self.table.pay_out(place)
+        self.ledger.pay_out(place)
     }
 }

@@ -1,9 +1,8 @@
 // The calls that put pledges onto a shelf, and take them off.
-ghost use Rattle.std.specs.Prelude.{◌≡◌, ◌*◌, ◌<◌, ◌≤◌, length, set, is_some, IfOk, Some};
-ghost use Rattle.shelf.specs.Limits.{top_cover, shelf_places};
+ghost use Rattle.std.specs.Prelude.{◌≡◌, ◌<◌, length, set, is_some, IfOk, Some};
+ghost use Rattle.shelf.specs.Limits.{shelf_places};
 ghost use Rattle.shelf.specs.Places.{at};
 ghost use Rattle.table.specs.Act.{Acted, first as first_cause};
-ghost use Rattle.table.specs.Sound.{Sound};
 ghost use Rattle.table.specs.Tables.{account_at, elevens};
 ghost use Rattle.lending.specs.Sound.{SoundAccount};
 ghost use Rattle.margin.specs.Margins.{covered};
@@ -15,10 +14,10 @@ use crate::book::Book;
 use crate::book::questions::pledged_on;
 use crate::pledged::Pledged;
 use lending::Account;
-use margin::{cover, cover_left, to_pledge, to_release};
+use margin::{Lengths, PledgedCents, cover, cover_left, to_pledge, to_release};
 use pledge::Pledge;
 use shelf::{Held, Lodging, empty, fill, is_taken, lodged};
-use table::{Refusal, Table};
+use table::{Ledger, Refusal};
 
 impl Book {
     /// Takes a pledge for an account into a place of its shelf. Answers the account's cover.
@@ -30,17 +29,20 @@ impl Book {
         place: u8,
         pledged: Pledged<P, Q>,
     ) -> Result<i64, Refusal>
-        ensures { Acted (pledge_act P.Pledge.numbers Q.Pledge.numbers self.now.table account place pledged) (both first.old second.old) (both first.new second.new) result }
+        ensures { Acted (pledge_act P.Pledge.numbers Q.Pledge.numbers self.now.ledger.table account place pledged) (both first.old second.old) (both first.new second.new) result }
     {
-        let day = self.table.day;
-        let (firsts, seconds) = (first.len(), second.len());
+        let day = self.ledger.table.day;
+        let lengths = Lengths {
+            first: first.len(),
+            second: second.len(),
+        };
         match pledged {
             Pledged::First(p) => {
-                let a = take_in(&self.table, first, firsts, seconds, account, place, p)?;
+                let a = take_in(&self.ledger, first, lengths, account, place, p)?;
                 Ok(self.cover_with(a, pledged_on(first, second, account, day)))
             }
             Pledged::Second(q) => {
-                let a = take_in(&self.table, second, firsts, seconds, account, place, q)?;
+                let a = take_in(&self.ledger, second, lengths, account, place, q)?;
                 Ok(self.cover_with(a, pledged_on(first, second, account, day)))
             }
         }
@@ -55,29 +57,30 @@ impl Book {
         shelf: u8,
         place: u8,
     ) -> Result<i64, Refusal>
-        ensures { Acted (release_act P.Pledge.numbers Q.Pledge.numbers self.now.table shelf place) (both first.old second.old) (both first.new second.new) result }
+        ensures { Acted (release_act P.Pledge.numbers Q.Pledge.numbers self.now.ledger.table shelf place) (both first.old second.old) (both first.new second.new) result }
     {
-        let day = self.table.day;
+        let day = self.ledger.table.day;
         let lodging = lodged_on(first, second, day, shelf, place);
         let backed = to_release(
-            &self.table,
-            first.len(),
-            second.len(),
+            &self.ledger,
+            Lengths {
+                first: first.len(),
+                second: second.len(),
+            },
             shelf,
             place,
             lodging,
         )?;
         let pledged = pledged_without(first, second, day, shelf, place, backed.lodging);
-        let cover = cover_left(&self.table, backed, pledged)?;
+        let cover = cover_left(&self.ledger, backed, pledged)?;
         empty_on(first, second, shelf, place);
         Ok(cover)
     }
 
     /// The cover of an account whose pledges cover so much.
-    fn cover_with(&self, a: Account, pledged: u64) -> i64
-        requires account { SoundAccount (elevens self.now.table) a }
-        requires pledged { pledged ≤ 2 * top_cover }
-        ensures { result ≡ covered (Some a) pledged }
+    fn cover_with(&self, a: Account, pledged: PledgedCents) -> i64
+        requires { SoundAccount (elevens self.now.ledger.table) a }
+        ensures { result ≡ covered (Some a) pledged.cents }
     {
         cover(a.balance, pledged)
     }
@@ -85,23 +88,20 @@ impl Book {
 
 /// Takes a pledge into a place of its shelf, or says why not. Answers the account that it backs.
 fn take_in<P: Pledge>(
-    table: &Table,
+    ledger: &Ledger,
     shelf: &mut [Option<Held<P>>],
-    firsts: usize,
-    seconds: usize,
+    lengths: Lengths,
     account: u8,
     place: u8,
     pledge: P,
 ) -> Result<Account, Refusal>
-    requires sound { Sound table.now }
-    requires places { firsts ≡ shelf_places → seconds ≡ shelf_places → length shelf.old ≡ shelf_places }
-    ensures taken { TakenIn (first_cause (pledge_causes table.now firsts seconds account place (is_some (at shelf.old place)) (P.numbers.expiry pledge))) (account_at table.now account) shelf.old (set shelf.old place (Some (record { account = account; pledge = pledge }))) shelf.new result }
-    ensures known { IfOk result (λ a. Pledgeable table.now firsts seconds place a) }
+    requires { lengths.first ≡ shelf_places → lengths.second ≡ shelf_places → length shelf.old ≡ shelf_places }
+    ensures taken { TakenIn (first_cause (pledge_causes ledger.now.table lengths.first lengths.second account place (is_some (at shelf.old place)) (P.numbers.expiry pledge))) (account_at ledger.now.table account) shelf.old (set shelf.old place (Some (record { account = account; pledge = pledge }))) shelf.new result }
+    ensures known { IfOk result (λ a. Pledgeable ledger.now.table lengths.first lengths.second place a) }
 {
     let a = to_pledge(
-        table,
-        firsts,
-        seconds,
+        ledger,
+        lengths,
         account,
         place,
         is_taken(shelf, place),
@@ -136,15 +136,16 @@ fn pledged_without<P: Pledge, Q: Pledge>(
     shelf: u8,
     place: u8,
     lodging: Lodging,
-) -> u64
+) -> PledgedCents
     requires first { length first.now ≡ shelf_places }
     requires second { length second.now ≡ shelf_places }
     requires place { place < shelf_places }
     requires lodged { lodging_on P.Pledge.numbers Q.Pledge.numbers (both first.now second.now) day shelf place ≡ Some lodging }
-    ensures value { result ≡ (backing P.Pledge.numbers Q.Pledge.numbers (emptied (both first.now second.now) shelf place)).covers lodging.account day }
-    ensures most { result ≤ 2 * top_cover }
+    ensures { result.cents ≡ (backing P.Pledge.numbers Q.Pledge.numbers (emptied (both first.now second.now) shelf place)).covers lodging.account day }
 {
-    pledged_on(first, second, lodging.account, day) - lodging.cover
+    PledgedCents {
+        cents: pledged_on(first, second, lodging.account, day).cents - lodging.cover,
+    }
 }
 
 /// Empties a place of a shelf by its number.

@@ -11,7 +11,7 @@ use crate::book::Book;
 use crate::book::questions::pledged_on;
 use crate::examined::Examined;
 use crate::slip::Slip;
-use margin::{call_short, examine, to_examine, to_ten, wait};
+use margin::{Lengths, call_short, examine, to_examine, to_ten, wait};
 use pledge::Pledge;
 use shelf::{Held, add_covers};
 use table::Refusal;
@@ -24,11 +24,17 @@ impl Book {
         first: &[Option<Held<P>>],
         second: &[Option<Held<Q>>],
     ) -> Result<u32, Refusal>
-        ensures { Acted (ten_act (backing P.Pledge.numbers Q.Pledge.numbers (both first.now second.now))) self.old.table self.new.table result }
+        ensures { Acted (ten_act (backing P.Pledge.numbers Q.Pledge.numbers (both first.now second.now))) self.old.ledger.table self.new.ledger.table result }
     {
-        to_ten(&self.table, first.len(), second.len())?;
-        let covers = all_covers(first, second, self.table.day);
-        Ok(call_short(&mut self.table, &covers))
+        to_ten(
+            &self.ledger,
+            Lengths {
+                first: first.len(),
+                second: second.len(),
+            },
+        )?;
+        let covers = all_covers(first, second, self.ledger.table.day);
+        Ok(call_short(&mut self.ledger, &covers))
     }
 
     /// Looks at an account with an open notice that no slip holds.
@@ -38,11 +44,18 @@ impl Book {
         second: &[Option<Held<Q>>],
         account: u8,
     ) -> Result<Examined, Refusal>
-        ensures { Examination (backing P.Pledge.numbers Q.Pledge.numbers (both first.now second.now)) account self.old.table self.new.table result }
+        ensures { Examination (backing P.Pledge.numbers Q.Pledge.numbers (both first.now second.now)) account self.old.ledger.table self.new.ledger.table result }
     {
-        let a = to_examine(&self.table, first.len(), second.len(), account)?;
-        let pledged = pledged_on(first, second, account, self.table.day);
-        match examine(&mut self.table, account, a, pledged) {
+        let a = to_examine(
+            &self.ledger,
+            Lengths {
+                first: first.len(),
+                second: second.len(),
+            },
+            account,
+        )?;
+        let pledged = pledged_on(first, second, account, self.ledger.table.day);
+        match examine(&mut self.ledger, account, a, pledged) {
             Some(lack) => Ok(Examined::Short(lack, Slip { account })),
             None => Ok(Examined::Met),
         }
@@ -50,10 +63,10 @@ impl Book {
 
     /// Spends a slip: the notice stays open, held by none. The slip is spent even where none is out here for its account.
     pub fn wait(&mut self, slip: Slip) -> Result<(), Refusal>
-        ensures { Acted (wait_act slip.account) self.old.table self.new.table result }
+        ensures { Acted (wait_act slip.account) self.old.ledger.table self.new.ledger.table result }
     {
         let Slip { account } = slip;
-        wait(&mut self.table, account)
+        wait(&mut self.ledger, account)
     }
 }
 

@@ -1,20 +1,20 @@
 // The questions, which change nothing.
-ghost use Rattle.std.specs.Prelude.{◌≡◌, ◌*◌, ◌≤◌, true, length, pos, ◌-ℤ◌, ◌≤ℤ◌, IfOk, Some};
+ghost use Rattle.std.specs.Prelude.{◌≡◌, ◌≤◌, true, length, pos, ◌-ℤ◌, ◌≤ℤ◌, IfOk, Some};
 ghost use Rattle.lending.specs.Measures.{top_floor};
 ghost use Rattle.lending.specs.Sound.{SoundAccount, lowest};
 ghost use Rattle.table.specs.Act.{first as first_cause};
 ghost use Rattle.table.specs.Limits.{last_day};
 ghost use Rattle.table.specs.Tables.{account_at, elevens};
-ghost use Rattle.shelf.specs.Limits.{top_cover, shelf_places};
+ghost use Rattle.shelf.specs.Limits.{shelf_places};
 ghost use Rattle.book.specs.Shelves.{both, backing};
 ghost use Rattle.book.specs.Statements.{Found, Stated, statement_causes, stated};
 
 use crate::book::Book;
 use crate::statement::{Loan, Money, Statement};
 use lending::{Account, floor, target};
-use margin::cover;
+use margin::{Lengths, PledgedCents, cover};
 use pledge::Pledge;
-use shelf::{Held, SHELF_PLACES, cover_of};
+use shelf::{Held, cover_of};
 use table::{ACCOUNT_PLACES, Refusal};
 
 impl Book {
@@ -25,39 +25,41 @@ impl Book {
         second: &[Option<Held<Q>>],
         account: u8,
     ) -> Result<Statement, Refusal>
-        ensures { Stated P.Pledge.numbers Q.Pledge.numbers self.now.table first.now second.now account result }
+        ensures { Stated P.Pledge.numbers Q.Pledge.numbers self.now.ledger.table first.now second.now account result }
     {
-        let a = self.account_to_state(first.len(), second.len(), account)?;
-        Ok(self.state(a, pledged_on(first, second, account, self.table.day)))
+        let a = self.account_to_state(
+            Lengths {
+                first: first.len(),
+                second: second.len(),
+            },
+            account,
+        )?;
+        Ok(self.state(a, pledged_on(first, second, account, self.ledger.table.day)))
     }
 
     /// Bit n is set while account n has an open notice.
     pub fn notice_word(&self) -> u64
-        ensures { result ≡ self.now.table.notices }
+        ensures { result ≡ self.now.ledger.table.notices }
     {
-        self.table.notices
+        u64::from(self.ledger.table.notices)
     }
 
     /// The account at a place, or why there is nothing to tell.
-    fn account_to_state(&self, first: usize, second: usize, account: u8) -> Result<Account, Refusal>
-        ensures found { Found (first_cause (statement_causes self.now.table first second account)) (account_at self.now.table account) result }
-        ensures sound { IfOk result (λ a. SoundAccount (elevens self.now.table) a × (first ≡ shelf_places) × (second ≡ shelf_places)) }
+    fn account_to_state(&self, lengths: Lengths, account: u8) -> Result<Account, Refusal>
+        ensures found { Found (first_cause (statement_causes self.now.ledger.table lengths.first lengths.second account)) (account_at self.now.ledger.table account) result }
+        ensures sound { IfOk result (λ a. SoundAccount (elevens self.now.ledger.table) a × (lengths.first ≡ shelf_places) × (lengths.second ≡ shelf_places)) }
     {
-        if first != SHELF_PLACES || second != SHELF_PLACES || account >= ACCOUNT_PLACES {
+        if !lengths.are_whole() || account >= ACCOUNT_PLACES {
             return Err(Refusal::NoSuchPlace);
         }
-        let Some(a) = self.table.account(account) else {
-            return Err(Refusal::PlaceEmpty);
-        };
-        Ok(a)
+        self.ledger.account(account).ok_or(Refusal::PlaceEmpty)
     }
 
-    fn state(&self, a: Account, pledged: u64) -> Statement
-        requires sound { SoundAccount (elevens self.now.table) a }
-        requires pledged { pledged ≤ 2 * top_cover }
-        ensures { result ≡ stated self.now.table (Some a) pledged }
+    fn state(&self, a: Account, pledged: PledgedCents) -> Statement
+        requires { SoundAccount (elevens self.now.ledger.table) a }
+        ensures { result ≡ stated self.now.ledger.table (Some a) pledged.cents }
     {
-        let price = self.table.price(a.security);
+        let price = self.ledger.price(a.security);
         let floor = floor(a.owed, a.applied, price);
         let cover = cover(a.balance, pledged);
         Statement {
@@ -83,13 +85,14 @@ pub(super) fn pledged_on<P: Pledge, Q: Pledge>(
     second: &[Option<Held<Q>>],
     account: u8,
     day: u16,
-) -> u64
+) -> PledgedCents
     requires first { length first.now ≤ shelf_places }
     requires second { length second.now ≤ shelf_places }
-    ensures value { result ≡ (backing P.Pledge.numbers Q.Pledge.numbers (both first.now second.now)).covers account day }
-    ensures most { result ≤ 2 * top_cover }
+    ensures { result.cents ≡ (backing P.Pledge.numbers Q.Pledge.numbers (both first.now second.now)).covers account day }
 {
-    cover_of(first, account, day) + cover_of(second, account, day)
+    PledgedCents {
+        cents: cover_of(first, account, day) + cover_of(second, account, day),
+    }
 }
 
 fn headroom(cover: i64, floor: u64) -> i64

@@ -5,7 +5,7 @@ ghost use Rattle.book.specs.Shelves.{both};
 ghost use Rattle.book.specs.States.{state};
 
 use crate::book::Book;
-use margin::{to_refund, vacate};
+use margin::{Lengths, to_refund, vacate};
 use pledge::Pledge;
 use shelf::{Held, clear};
 use table::Refusal;
@@ -18,11 +18,18 @@ impl Book {
         second: &mut [Option<Held<Q>>],
         account: u8,
     ) -> Result<u64, Refusal>
-        ensures { Acted (refund_act account) (state self.old.table (both first.old second.old)) (state self.new.table (both first.new second.new)) result }
+        ensures { Acted (refund_act account) (state self.old.ledger.table (both first.old second.old)) (state self.new.ledger.table (both first.new second.new)) result }
     {
-        let a = to_refund(&self.table, first.len(), second.len(), account)?;
+        let a = to_refund(
+            &self.ledger,
+            Lengths {
+                first: first.len(),
+                second: second.len(),
+            },
+            account,
+        )?;
         clear(first, account);
         clear(second, account);
-        Ok(vacate(&mut self.table, account, a))
+        Ok(vacate(&mut self.ledger, account, a))
     }
 }

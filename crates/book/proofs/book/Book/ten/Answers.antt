@@ -10,7 +10,7 @@ use Rattle.book.proofs.book.Book.ten.Goals as goal
 
 pub returns : goal.returns
 returns g c =
-    let t = c.args.self.now.table in
+    let t = c.args.self.now.ledger.table in
     let b = backing g.P.Pledge.numbers g.Q.Pledge.numbers (both c.args.first.now c.args.second.now) in
     let word : short_among t (λ k. get_or c.all_covers-covers.result k 0) ≡ short_word b t =
     word_same _ _ account_places (λ k l. ap (short t (account_at t k)) (c.all_covers-covers.ensures.value k l)) in (
