@@ -97,10 +97,10 @@ module _ {P Q : Type 0} (n : Numbers P) (m : Numbers Q) where
       idle_watched (backing n m w.shelves) _ _ d.2 (in_afternoon w.book.ledger.table.hour (clear (pay_out_causes place w.book.ledger.table) d.0).1.0)
   watched_step rn rm w u (pays_out b place (Err e) d) before = watched_as (backing n m w.shelves) _ _ d.1 before
   watched_step rn rm w u (refunds b s account (Ok x) d) before =
-      idle_watched (backing n m s) _ _ (ap (λ z. z.ledger.table) d.2)
+      idle_watched (backing n m s) _ _ (ap (λ z. z.table) d.2)
       (in_afternoon w.book.ledger.table.hour (clear (refund_causes (length w.shelves.first) (length w.shelves.second) account w.book.ledger.table) d.0).1.0)
   watched_step rn rm w u (refunds b s account (Err e) d) before =
-      subst (λ (z : State P Q). Watched (backing n m z.shelves) z.ledger.table) (sym d.1) before
+      subst (λ (z : State P Q). Watched (backing n m z.shelves) z.table) (sym d.1) before
 
   watched_run : Rules n → Rules m → (w u : World P Q) → New w → Calls n m w u → Watched (backing n m u.shelves) u.book.ledger.table
   watched_run rn rm w u new start = unwatched (backing n m w.shelves) w.book.ledger.table (ap (λ t. calling t.hour) new.blank)

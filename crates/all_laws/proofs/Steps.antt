@@ -187,7 +187,7 @@ module _ {P Q : Type 0} (n : Numbers P) (m : Numbers Q) where
   moved w u (pays_out b place (Err e) d) = same _ _ d.1
   moved w u (refunds b s account (Ok cents) d) =
       let t : Table = w.book.ledger.table in
-      let after : b.ledger.table ≡ with_account t account None = ap (λ z. z.ledger.table) d.2 in
+      let after : b.ledger.table ≡ with_account t account None = ap (λ z. z.table) d.2 in
       let ok = clear (refund_causes (length w.shelves.first) (length w.shelves.second) account t) d.0 in
       let within : account < length t.accounts = omega (arith, w.book.ledger.sound.sized.0, leb-false account_places account (or_parts _ _ ok.0).1) in
       let paid : (pos 0 +ℤ pos cents) ≡ balance_at t account = ap (λ (c : ℕ). pos 0 +ℤ pos c) d.1 ∙ credit (balance_at t account) (or_parts _ _ ok.1.1.1.0).1 in
@@ -196,4 +196,4 @@ module _ {P Q : Type 0} (n : Numbers P) (m : Numbers Q) where
         earnings = omega (arith, none_charged nothing (λ _. refl), ap earned after);
         count = omega (arith, ap (λ (x : Table). ones x.notices) after);
       }
-  moved w u (refunds b s account (Err e) d) = same _ _ (ap (λ z. z.ledger.table) d.1)
+  moved w u (refunds b s account (Err e) d) = same _ _ (ap (λ z. z.table) d.1)
