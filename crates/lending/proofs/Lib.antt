@@ -5,6 +5,7 @@ mod Ahead
 mod Bounds
 mod Earnings
 mod Fees
+mod FromFn
 mod Giving
 mod Parts
 mod Passes

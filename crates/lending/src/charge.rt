@@ -8,12 +8,11 @@ ghost use Rattle.lending.specs.Eleven.{pays_at};
 ghost use Rattle.lending.specs.Steps.{pays};
 
 use crate::account::Account;
-use crate::sizes::SECURITIES;
+use crate::sizes::{ACCOUNT_PLACES, SECURITIES};
 
 /// The need of each security: the units that its accounts owe and apply for.
-pub(crate) fn needs(accounts: &[Option<Account>]) -> [u64; SECURITIES]
-    requires places { length accounts.now ≡ account_places }
-    requires sound { SoundAccounts top_elevens accounts.now }
+pub(crate) fn needs(accounts: &[Option<Account>; ACCOUNT_PLACES]) -> [u64; SECURITIES]
+    requires { SoundAccounts top_elevens accounts.now }
     ensures { (s : ℕ) → slice_index result s ≡ need_of accounts.now s }
 {
     let mut needs = [0; SECURITIES];
@@ -24,8 +23,7 @@ pub(crate) fn needs(accounts: &[Option<Account>]) -> [u64; SECURITIES]
 }
 
 /// Adds the units of an account to those of its security.
-fn count(account: Option<Account>, units: &mut [u64])
-    requires units { length units.old ≡ securities }
+fn count(account: Option<Account>, units: &mut [u64; SECURITIES])
     requires room { (s : ℕ) → slice_index units.old s ≤ account_places * top_units }
     requires sound { (a : Account) → account ≡ Some a → SoundAccount top_elevens a }
     ensures { (s : ℕ) → slice_index units.new s ≡ slice_index units.old s + units_in s account }
@@ -36,28 +34,31 @@ fn count(account: Option<Account>, units: &mut [u64])
 }
 
 /// The accounts of each security pay what its offers earned, in rising place, and their units are lent.
-pub(crate) fn charge(accounts: &mut [Option<Account>], needs: &[u64], earned: &[u64])
-    requires places { length accounts.old ≡ account_places }
-    requires needs { length needs.now ≡ securities }
-    requires earned { length earned.now ≡ securities }
+pub(crate) fn charge(
+    accounts: &mut [Option<Account>; ACCOUNT_PLACES],
+    needs: &[u64; SECURITIES],
+    earned: &[u64; SECURITIES],
+)
     requires need { (s : ℕ) → slice_index needs.now s ≡ need_of accounts.old s }
     requires most { (s : ℕ) → slice_index earned.now s ≤ shares * top_rate * slice_index needs.now s }
     requires sound { SoundAccounts top_elevens accounts.old }
     ensures { (k : ℕ) → at accounts.new k ≡ option_map (λ a. charged a (pays_at accounts.old (λ s. slice_index earned.now s) k (at accounts.old k))) (at accounts.old k) }
 {
     let mut earlier = [0; SECURITIES];
-    for k in 0..accounts.len() {
-        let account = accounts[k];
-        pay(&mut accounts[k], needs, earned, &earlier);
+    for slot in accounts {
+        let account = *slot;
+        pay(slot, needs, earned, &earlier);
         count(account, &mut earlier);
     }
 }
 
 /// An account pays its fee, where the accounts before it have `earlier` units, and its units are lent.
-fn pay(slot: &mut Option<Account>, needs: &[u64], earned: &[u64], earlier: &[u64])
-    requires needs { length needs.now ≡ securities }
-    requires earned { length earned.now ≡ securities }
-    requires earlier { length earlier.now ≡ securities }
+fn pay(
+    slot: &mut Option<Account>,
+    needs: &[u64; SECURITIES],
+    earned: &[u64; SECURITIES],
+    earlier: &[u64; SECURITIES],
+)
     requires within { (s : ℕ) → slice_index earlier.now s + units_in s slot.old ≤ slice_index needs.now s }
     requires need { (s : ℕ) → slice_index needs.now s ≤ account_places * top_units }
     requires most { (s : ℕ) → slice_index earned.now s ≤ shares * top_rate * slice_index needs.now s }

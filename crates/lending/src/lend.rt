@@ -14,10 +14,11 @@ use crate::order::order;
 use crate::sizes::{OFFER_PLACES, SECURITIES};
 
 /// The units that each place gives to what is `left` of each security's need.
-pub(crate) fn given(offers: &[Option<Offer>], left: &mut [u64]) -> [u64; OFFER_PLACES]
-    requires places { length offers.now ≡ offer_places }
-    requires left { length left.old ≡ securities }
-    requires sound { SoundOffers top_elevens offers.now }
+pub(crate) fn given(
+    offers: &[Option<Offer>; OFFER_PLACES],
+    left: &mut [u64; SECURITIES],
+) -> [u64; OFFER_PLACES]
+    requires { SoundOffers top_elevens offers.now }
     ensures units { (k : ℕ) → slice_index result k ≡ gives_at offers.now (λ s. slice_index left.old s) k (at offers.now k) }
     ensures left { (s : ℕ) → slice_index left.new s ≡ slice_index left.old s - below (length offers.now) (λ k. offered_in s (at offers.now k)) }
 {
@@ -30,27 +31,25 @@ pub(crate) fn given(offers: &[Option<Offer>], left: &mut [u64]) -> [u64; OFFER_P
 }
 
 /// What an offer gives to what is `left` of its security's need.
-fn give(offer: Option<Offer>, left: &mut [u64]) -> u64
-    requires left { length left.old ≡ securities }
-    requires sound { (o : Offer) → offer ≡ Some o → SoundOffer top_elevens o }
+fn give(offer: Option<Offer>, left: &mut [u64; SECURITIES]) -> u64
+    requires { (o : Offer) → offer ≡ Some o → SoundOffer top_elevens o }
     ensures units { result ≡ takes left.old offer }
     ensures left { (s : ℕ) → slice_index left.new s ≡ slice_index left.old s - offered_in s offer }
 {
-    match offer {
-        Some(o) => {
-            let s = o.security as usize;
-            let units = left[s].min(o.units as u64);
-            left[s] -= units;
-            units
-        }
-        None => 0,
-    }
+    let Some(o) = offer else {
+        return 0;
+    };
+    let left = &mut left[o.security as usize];
+    let units = (*left).min(o.units as u64);
+    *left -= units;
+    units
 }
 
 /// Each offer earns for the units that it gives: what the offers of each security earn together.
-pub(crate) fn lend(offers: &mut [Option<Offer>], given: &[u64]) -> [u64; SECURITIES]
-    requires places { length offers.old ≡ offer_places }
-    requires given { length given.now ≡ offer_places }
+pub(crate) fn lend(
+    offers: &mut [Option<Offer>; OFFER_PLACES],
+    given: &[u64; OFFER_PLACES],
+) -> [u64; SECURITIES]
     requires units { (k : ℕ) → slice_index given.now k ≤ top_units }
     requires sound { SoundOffers top_elevens offers.old }
     ensures earned { (s : ℕ) → slice_index result s ≡ below (length offers.old) (λ k. earns_in s (at offers.old k) (slice_index given.now k)) }
@@ -58,15 +57,14 @@ pub(crate) fn lend(offers: &mut [Option<Offer>], given: &[u64]) -> [u64; SECURIT
     ensures after { (k : ℕ) → at offers.new k ≡ option_map (λ o. lent o (slice_index given.now k)) (at offers.old k) }
 {
     let mut earned = [0; SECURITIES];
-    for k in 0..offers.len() {
-        earn(&mut offers[k], given[k], &mut earned);
+    for (place, slot) in offers.iter_mut().enumerate() {
+        earn(slot, given[place], &mut earned);
     }
     earned
 }
 
 /// An offer earns for `given` units: a part for its broker, the rest for its lender.
-fn earn(slot: &mut Option<Offer>, given: u64, earned: &mut [u64])
-    requires earned { length earned.old ≡ securities }
+fn earn(slot: &mut Option<Offer>, given: u64, earned: &mut [u64; SECURITIES])
     requires room { (s : ℕ) → slice_index earned.old s ≤ offer_places * top_fee }
     requires units { given ≤ top_units }
     requires sound { (o : Offer) → slot.old ≡ Some o → SoundOffer top_elevens o }

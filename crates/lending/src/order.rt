@@ -16,8 +16,7 @@ pub(crate) struct Rank {
 }
 
 /// The ranks of all places, in rising order.
-pub(crate) fn order(offers: &[Option<Offer>]) -> [Rank; OFFER_PLACES]
-    requires { length offers.now ≡ offer_places }
+pub(crate) fn order(offers: &[Option<Offer>; OFFER_PLACES]) -> [Rank; OFFER_PLACES]
     ensures ordered { Ordered offers.now result }
     ensures inside { (j : ℕ) → j < offer_places → place_at result j < offer_places }
 {
@@ -27,26 +26,18 @@ pub(crate) fn order(offers: &[Option<Offer>]) -> [Rank; OFFER_PLACES]
 }
 
 /// The rank of each place.
-fn ranks(offers: &[Option<Offer>]) -> [Rank; OFFER_PLACES]
-    requires { length offers.now ≡ offer_places }
-    ensures { result ≡ map (rank_at offers.now) (range_with_len 0 (length offers.now)) }
+fn ranks(offers: &[Option<Offer>; OFFER_PLACES]) -> [Rank; OFFER_PLACES]
+    ensures { result ≡ map (rank_at offers.now) (range_with_len 0 offer_places) }
 {
-    let mut ranks = [Rank { rate: 0, place: 0 }; OFFER_PLACES];
-    for k in 0..OFFER_PLACES {
-        ranks[k] = Rank {
-            rate: rate_of(offers[k]),
-            place: k,
-        };
-    }
-    ranks
+    std::array::from_fn(|place| Rank {
+        rate: rate_of(offers[place]),
+        place,
+    })
 }
 
 /// The rate of the offer of a place; an empty place has 0.
 fn rate_of(offer: Option<Offer>) -> u32
     ensures { result ≡ rate_of offer }
 {
-    match offer {
-        Some(o) => o.rate,
-        None => 0,
-    }
+    offer.map_or(0, |o| o.rate)
 }

@@ -13,13 +13,13 @@ pub overflow_add-a : goal.overflow_add-a
 overflow_add-a c = omega (arith, (c.requires.sound c.in-Some.a c.in-Some.is).0.1)
 
 pub bounds-earned-s : goal.bounds-earned-s
-bounds-earned-s c = omega (arith, (c.requires.sound c.in-Some.a c.in-Some.is).0.0, c.requires.earned)
+bounds-earned-s c = (c.requires.sound c.in-Some.a c.in-Some.is).0.0
 
 pub bounds-earlier-s : goal.bounds-earlier-s
-bounds-earlier-s c = omega (arith, (c.requires.sound c.in-Some.a c.in-Some.is).0.0, c.requires.earlier)
+bounds-earlier-s c = (c.requires.sound c.in-Some.a c.in-Some.is).0.0
 
 pub bounds-needs-s : goal.bounds-needs-s
-bounds-needs-s c = omega (arith, (c.requires.sound c.in-Some.a c.in-Some.is).0.0, c.requires.needs)
+bounds-needs-s c = (c.requires.sound c.in-Some.a c.in-Some.is).0.0
 
 pub fee-due-requires : goal.fee-due-requires
 fee-due-requires c =

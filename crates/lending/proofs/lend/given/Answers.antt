@@ -7,11 +7,11 @@ pub loop-rank-init : goal.loop-rank-init
 loop-rank-init c = start c.args.offers.now c.args.left.now c.order-ranks.result
 
 pub give-requires : goal.give-requires
-give-requires c = record { left = omega (arith, c.requires.left); sound = c.requires.sound (place_at c.order-ranks.result c.loop-rank.rank-index) }
+give-requires c = c.requires (place_at c.order-ranks.result c.loop-rank.rank-index)
 
 pub loop-rank-preserved : goal.loop-rank-preserved
 loop-rank-preserved c =
-    step c.args.offers.now c.args.left.now c.order-ranks.result c.order-ranks.ensures.ordered c.requires.places c.loop-rank.given c.loop-rank.left c.loop-rank.rank-index c.give.result c.give.new.left
+    step c.args.offers.now c.args.left.now c.order-ranks.result c.order-ranks.ensures.ordered (omega arith) c.loop-rank.given c.loop-rank.left c.loop-rank.rank-index c.give.result c.give.new.left
     c.loop-rank.invariant (omega (arith, c.order-ranks.ensures.ordered.long)) c.give.ensures.units c.give.ensures.left
 
 pub returns : goal.returns
@@ -21,6 +21,6 @@ returns c =
     let all : Gave os c.args.left.now c.order-ranks.result c.loop-rank.given c.loop-rank.left (length os) =
     subst (λ (j : ℕ). Gave os c.args.left.now c.order-ranks.result c.loop-rank.given c.loop-rank.left j) end c.loop-rank.invariant in
     record {
-      units = gave_all os c.args.left.now c.order-ranks.result c.order-ranks.ensures.ordered c.requires.places c.loop-rank.given c.loop-rank.left all;
-      left = left_all os c.args.left.now c.order-ranks.result c.order-ranks.ensures.ordered c.requires.places c.loop-rank.given c.loop-rank.left all;
+      units = gave_all os c.args.left.now c.order-ranks.result c.order-ranks.ensures.ordered (omega arith) c.loop-rank.given c.loop-rank.left all;
+      left = left_all os c.args.left.now c.order-ranks.result c.order-ranks.ensures.ordered (omega arith) c.loop-rank.given c.loop-rank.left all;
     }

@@ -9,26 +9,25 @@ use Rattle.lending.proofs.lend.lend.Goals as goal
 
 pub earn-requires : goal.earn-requires
 earn-requires c =
-    let few : c.loop-k.k ≤ offer_places = omega arith in
+    let few : c.loop-place.place ≤ offer_places = omega arith in
     record {
-      earned = c.loop-k.invariant.long;
-      room = λ s. omega (arith, c.loop-k.invariant.earned_is s, earned_room top_elevens c.args.offers.now c.args.given.now c.requires.sound c.requires.units s c.loop-k.k few);
-      units = c.requires.units c.loop-k.k;
-      sound = λ o e. c.requires.sound c.loop-k.k o (sym (c.loop-k.invariant.passed.rest c.loop-k.k (omega arith)) ∙ e);
+      room = λ s. omega (arith, c.loop-place.invariant.earned_is s, earned_room top_elevens c.args.offers.now c.args.given.now c.requires.sound c.requires.units s c.loop-place.place few);
+      units = c.requires.units c.loop-place.place;
+      sound = λ o e. c.requires.sound c.loop-place.place o (sym (c.loop-place.invariant.passed.rest c.loop-place.place (omega arith)) ∙ e);
     }
 
-pub loop-k-preserved : goal.loop-k-preserved
-loop-k-preserved c =
-    step c.args.offers.now c.args.given.now c.loop-k.offers c.loop-k.earned c.loop-k.k c.earn.new.slot c.earn.new.earned
-    c.loop-k.invariant (omega arith) (omega arith) c.earn.ensures.after c.earn.ensures.earned
+pub loop-place-preserved : goal.loop-place-preserved
+loop-place-preserved c =
+    step c.args.offers.now c.args.given.now c.loop-place.offers c.loop-place.earned c.loop-place.place c.earn.new.slot c.earn.new.earned
+    c.loop-place.invariant (omega arith) c.earn.ensures.after c.earn.ensures.earned
 
 pub returns : goal.returns
 returns c =
     let os = c.args.offers.now in
-    let end : c.loop-k.k ≡ length os = omega arith in
-    let few : c.loop-k.k ≤ offer_places = omega arith in
+    let end : c.loop-place.place ≡ length os = omega arith in
+    let few : c.loop-place.place ≤ offer_places = omega arith in
     record {
-      earned = λ s. c.loop-k.invariant.earned_is s ∙ ap (λ n. below n (λ k. earns_in s (at os k) (get_or c.args.given.now k 0))) end;
-      most = λ s. omega (arith, c.loop-k.invariant.earned_is s, earned_room top_elevens os c.args.given.now c.requires.sound c.requires.units s c.loop-k.k few);
-      after = passed_all (earn_at c.args.given.now) os c.loop-k.offers c.loop-k.k c.loop-k.invariant.passed (omega arith);
+      earned = λ s. c.loop-place.invariant.earned_is s ∙ ap (λ n. below n (λ k. earns_in s (at os k) (get_or c.args.given.now k 0))) end;
+      most = λ s. omega (arith, c.loop-place.invariant.earned_is s, earned_room top_elevens os c.args.given.now c.requires.sound c.requires.units s c.loop-place.place few);
+      after = passed_all (earn_at c.args.given.now) os c.loop-place.offers c.loop-place.place c.loop-place.invariant.passed (omega arith);
     }
