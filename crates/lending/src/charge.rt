@@ -1,8 +1,8 @@
 // The need of each security, and what its accounts pay for it.
-ghost use Rattle.std.specs.Prelude.{◌≡◌, ℕ, ◌+◌, ◌-◌, ◌*◌, ◌≤◌, true, length, pos, ◌-ℤ◌, ◌≤ℤ◌, Some, slice_index};
+ghost use Rattle.std.specs.Prelude.{◌≡◌, ℕ, ◌+◌, ◌-◌, ◌*◌, ◌≤◌, Some, slice_index};
 ghost use Rattle.std.specs.Option.{option_map};
 ghost use Rattle.lending.specs.Measures.{shares, top_units};
-ghost use Rattle.lending.specs.Sound.{securities, account_places, top_rate, top_fee, top_elevens, top_balance, lowest, SoundAccount, SoundAccounts};
+ghost use Rattle.lending.specs.Sound.{account_places, top_rate, top_elevens, SoundAccount, SoundAccounts};
 ghost use Rattle.lending.specs.Lending.{at, units_in, need_of, share, charged};
 ghost use Rattle.lending.specs.Eleven.{pays_at};
 ghost use Rattle.lending.specs.Steps.{pays};
@@ -69,38 +69,42 @@ fn pay(
         let s = a.security as usize;
         a.owed += a.applied;
         a.applied = 0;
-        let due = fee(earned[s], earlier[s], a.owed as u64, needs[s]);
-        a.balance = less(a.balance, due);
+        let bill = Bill {
+            all: earned[s],
+            need: needs[s],
+        };
+        a.balance -= bill.fee(earlier[s], a.owed as u64) as i64;
     }
 }
 
-/// A balance less a fee.
-fn less(balance: i64, fee: u64) -> i64
-    requires low { lowest top_elevens true ≤ℤ balance }
-    requires high { balance ≤ℤ pos top_balance }
-    requires fee { fee ≤ top_fee }
-    ensures { result ≡ balance -ℤ pos fee }
-{
-    balance - fee as i64
+/// What the accounts of a security pay together, for the units of its need.
+#[derive(Clone, Copy)]
+struct Bill {
+    all: u64,
+    need: u64,
+    ghost few: { need ≤ account_places * top_units },
+    ghost most: { all ≤ shares * top_rate * need },
 }
 
-/// What `units` pay that come after `earlier` ones, where `need` units pay `all`: the parts of all units add up to all.
-fn fee(all: u64, earlier: u64, units: u64, need: u64) -> u64
-    requires within { earlier + units ≤ need }
-    requires need { need ≤ account_places * top_units }
-    requires most { all ≤ shares * top_rate * need }
-    ensures value { result ≡ share all (earlier + units) need - share all earlier need }
-    ensures most { result ≤ shares * top_rate * units }
-{
-    part(all, earlier + units, need) - part(all, earlier, need)
-}
+impl Bill {
+    /// What `units` pay that come after `earlier` ones: the parts of all units add up to all.
+    fn fee(self, earlier: u64, units: u64) -> u64
+        requires { earlier + units ≤ self.need }
+        ensures value { result ≡ share self.all (earlier + units) self.need - share self.all earlier self.need }
+        ensures most { result ≤ shares * top_rate * units }
+    {
+        self.part(earlier + units) - self.part(earlier)
+    }
 
-/// The part of `all` that the first `units` of `need` pay, rounded down.
-fn part(all: u64, units: u64, need: u64) -> u64
-    requires within { units ≤ need }
-    requires need { need ≤ account_places * top_units }
-    requires most { all ≤ shares * top_rate * need }
-    ensures { result ≡ share all units need }
-{
-    if need == 0 { 0 } else { all * units / need }
+    /// The part of all that the first `units` pay, rounded down.
+    fn part(self, units: u64) -> u64
+        requires { units ≤ self.need }
+        ensures { result ≡ share self.all units self.need }
+    {
+        if self.need == 0 {
+            0
+        } else {
+            self.all * units / self.need
+        }
+    }
 }

@@ -21,28 +21,24 @@ bounds-earlier-s c = (c.requires.sound c.in-Some.a c.in-Some.is).0.0
 pub bounds-needs-s : goal.bounds-needs-s
 bounds-needs-s c = (c.requires.sound c.in-Some.a c.in-Some.is).0.0
 
-pub fee-due-requires : goal.fee-due-requires
-fee-due-requires c =
+pub fee-requires : goal.fee-requires
+fee-requires c =
     let a = c.in-Some.a in
-    record {
-      within = omega (arith, c.requires.within a.security, ap (units_in a.security) c.in-Some.is, own_units a);
-      need = c.requires.need a.security;
-      most = c.requires.most a.security;
-    }
+    omega (arith, c.requires.within a.security, ap (units_in a.security) c.in-Some.is, own_units a)
 
-pub less-a-requires : goal.less-a-requires
-less-a-requires c =
+pub overflow_sub-a : goal.overflow_sub-a
+overflow_sub-a c =
     let sound = c.requires.sound c.in-Some.a c.in-Some.is in
     let low = balance_low top_elevens c.in-Some.a sound in
-    record { low = omega (arith, ints, sound.1.1); high = omega (arith, ints, sound.1.1); fee = omega (arith, c.fee-due.ensures.most, sound.0.1) }
+    omega (arith, ints, c.fee.ensures.most)
 
 pub returns-in-Some : goal.returns-in-Some
 returns-in-Some c =
     let a = c.in-Some.a in
     let sound = c.requires.sound c.in-Some.a c.in-Some.is in
     let low = balance_low top_elevens c.in-Some.a sound in
-    let paid : to_z w64 (of_z w64 c.less-a.result) ≡ a.balance -ℤ pos c.fee-due.result = omega (arith, ints, c.less-a.ensures, c.less-a.type_inv, sound.1.1) in
-    ap (λ z. Some (with_balance a z)) (paid ∙ ap (λ n. a.balance -ℤ pos n) c.fee-due.ensures.value)
+    let paid : to_z w64 (of_z w64 (to_z w64 (of_z w64 a.balance) -ℤ to_z w64 c.fee.result)) ≡ a.balance -ℤ pos c.fee.result = omega (arith, ints, c.fee.ensures.most) in
+    ap (λ z. Some (with_balance a z)) (paid ∙ ap (λ n. a.balance -ℤ pos n) c.fee.ensures.value)
     ∙ sym (ap (λ p. option_map (λ a. charged a (pays c.args.earned.now c.args.needs.now c.args.earlier.now p)) p) c.in-Some.is)
   where
     with_balance : Account → ℤ → Account

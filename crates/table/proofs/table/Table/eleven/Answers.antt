@@ -13,8 +13,6 @@ eleven-answer-requires c =
     let s = c.requires.sound in
     let most : elevens t ≤ top_elevens = omega (arith, elevens_most t, s.dated) in
     record {
-      accounts = s.sized.0;
-      offers = s.sized.1;
       loans = accounts_later (elevens t) top_elevens most t.accounts (λ k a e. (s.loans k a e, s.balances k a e));
       lenders = offers_later (elevens t) top_elevens most t.offers (λ k o e. (s.terms k o e, s.earnings k o e));
     }
