@@ -1,5 +1,5 @@
 // The need of each security, and what its accounts pay for it.
-ghost use Rattle.std.specs.Prelude.{◌≡◌, ℕ, ◌+◌, ◌-◌, ◌*◌, ◌≤◌, Some, slice_index};
+ghost use Rattle.std.specs.Prelude.{◌≡◌, ℕ, ◌+◌, ◌-◌, ◌*◌, ◌≤◌, IfSome, slice_index};
 ghost use Rattle.std.specs.Option.{option_map};
 ghost use Rattle.lending.specs.Measures.{shares, top_units};
 ghost use Rattle.lending.specs.Sound.{account_places, top_rate, top_elevens, SoundAccount, SoundAccounts};
@@ -22,17 +22,6 @@ pub(crate) fn needs(accounts: &[Option<Account>; ACCOUNT_PLACES]) -> [u64; SECUR
     needs
 }
 
-/// Adds the units of an account to those of its security.
-fn count(account: Option<Account>, units: &mut [u64; SECURITIES])
-    requires room { (s : ℕ) → slice_index units.old s ≤ account_places * top_units }
-    requires sound { (a : Account) → account ≡ Some a → SoundAccount top_elevens a }
-    ensures { (s : ℕ) → slice_index units.new s ≡ slice_index units.old s + units_in s account }
-{
-    if let Some(a) = account {
-        units[a.security as usize] += (a.owed + a.applied) as u64;
-    }
-}
-
 /// The accounts of each security pay what its offers earned, in rising place, and their units are lent.
 pub(crate) fn charge(
     accounts: &mut [Option<Account>; ACCOUNT_PLACES],
@@ -46,9 +35,20 @@ pub(crate) fn charge(
 {
     let mut earlier = [0; SECURITIES];
     for slot in accounts {
-        let account = *slot;
+        let before = *slot;
         pay(slot, needs, earned, &earlier);
-        count(account, &mut earlier);
+        count(before, &mut earlier);
+    }
+}
+
+/// Adds the units of an account to those of its security.
+fn count(slot: Option<Account>, units: &mut [u64; SECURITIES])
+    requires room { (s : ℕ) → slice_index units.old s ≤ account_places * top_units }
+    requires sound { IfSome slot (SoundAccount top_elevens) }
+    ensures { (s : ℕ) → slice_index units.new s ≡ slice_index units.old s + units_in s slot }
+{
+    if let Some(account) = slot {
+        units[account.security as usize] += (account.owed + account.applied) as u64;
     }
 }
 
@@ -62,18 +62,18 @@ fn pay(
     requires within { (s : ℕ) → slice_index earlier.now s + units_in s slot.old ≤ slice_index needs.now s }
     requires need { (s : ℕ) → slice_index needs.now s ≤ account_places * top_units }
     requires most { (s : ℕ) → slice_index earned.now s ≤ shares * top_rate * slice_index needs.now s }
-    requires sound { (a : Account) → slot.old ≡ Some a → SoundAccount top_elevens a }
+    requires sound { IfSome slot.old (SoundAccount top_elevens) }
     ensures { slot.new ≡ option_map (λ a. charged a (pays earned.now needs.now earlier.now slot.old)) slot.old }
 {
-    if let Some(a) = slot {
-        let s = a.security as usize;
-        a.owed += a.applied;
-        a.applied = 0;
+    if let Some(account) = slot {
+        let security = account.security as usize;
+        account.owed += account.applied;
+        account.applied = 0;
         let bill = Bill {
-            all: earned[s],
-            need: needs[s],
+            all: earned[security],
+            need: needs[security],
         };
-        a.balance -= bill.fee(earlier[s], a.owed as u64) as i64;
+        account.balance -= bill.fee(earlier[security], account.owed as u64) as i64;
     }
 }
 

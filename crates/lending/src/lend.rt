@@ -1,9 +1,9 @@
 // What the offers give, and what they earn by it.
-ghost use Rattle.std.specs.Prelude.{◌≡◌, ℕ, ◌+◌, ◌-◌, ◌*◌, ◌≤◌, length, Some, slice_index};
+ghost use Rattle.std.specs.Prelude.{◌≡◌, ℕ, ◌+◌, ◌-◌, ◌*◌, ◌≤◌, length, IfSome, slice_index};
 ghost use Rattle.std.specs.Option.{option_map};
 ghost use Rattle.sums.specs.Below.{below};
 ghost use Rattle.lending.specs.Measures.{shares, top_units};
-ghost use Rattle.lending.specs.Sound.{securities, offer_places, top_rate, top_commission, top_fee, top_elevens, SoundOffer, SoundOffers};
+ghost use Rattle.lending.specs.Sound.{offer_places, top_rate, top_commission, top_fee, top_elevens, SoundOffer, SoundOffers};
 ghost use Rattle.lending.specs.Lending.{at, offered_in, hundredth, lent};
 ghost use Rattle.lending.specs.Eleven.{gives_at};
 ghost use Rattle.lending.specs.Steps.{takes, earns_in};
@@ -22,27 +22,11 @@ pub(crate) fn given(
     ensures units { (k : ℕ) → slice_index result k ≡ gives_at offers.now (λ s. slice_index left.old s) k (at offers.now k) }
     ensures left { (s : ℕ) → slice_index left.new s ≡ slice_index left.old s - below (length offers.now) (λ k. offered_in s (at offers.now k)) }
 {
-    let ranks = order(offers);
     let mut given = [0; OFFER_PLACES];
-    for rank in &ranks {
+    for rank in order(offers) {
         given[rank.place] = give(offers[rank.place], left);
     }
     given
-}
-
-/// What an offer gives to what is `left` of its security's need.
-fn give(offer: Option<Offer>, left: &mut [u64; SECURITIES]) -> u64
-    requires { (o : Offer) → offer ≡ Some o → SoundOffer top_elevens o }
-    ensures units { result ≡ takes left.old offer }
-    ensures left { (s : ℕ) → slice_index left.new s ≡ slice_index left.old s - offered_in s offer }
-{
-    let Some(o) = offer else {
-        return 0;
-    };
-    let left = &mut left[o.security as usize];
-    let units = (*left).min(o.units as u64);
-    *left -= units;
-    units
 }
 
 /// Each offer earns for the units that it gives: what the offers of each security earn together.
@@ -63,19 +47,34 @@ pub(crate) fn lend(
     earned
 }
 
+/// What an offer gives to what is `left` of its security's need.
+fn give(slot: Option<Offer>, left: &mut [u64; SECURITIES]) -> u64
+    requires { IfSome slot (SoundOffer top_elevens) }
+    ensures units { result ≡ takes left.old slot }
+    ensures left { (s : ℕ) → slice_index left.new s ≡ slice_index left.old s - offered_in s slot }
+{
+    let Some(offer) = slot else {
+        return 0;
+    };
+    let left = &mut left[offer.security as usize];
+    let units = (*left).min(offer.units as u64);
+    *left -= units;
+    units
+}
+
 /// An offer earns for `given` units: a part for its broker, the rest for its lender.
 fn earn(slot: &mut Option<Offer>, given: u64, earned: &mut [u64; SECURITIES])
     requires room { (s : ℕ) → slice_index earned.old s ≤ offer_places * top_fee }
     requires units { given ≤ top_units }
-    requires sound { (o : Offer) → slot.old ≡ Some o → SoundOffer top_elevens o }
+    requires sound { IfSome slot.old (SoundOffer top_elevens) }
     ensures after { slot.new ≡ option_map (λ o. lent o given) slot.old }
     ensures earned { (s : ℕ) → slice_index earned.new s ≡ slice_index earned.old s + earns_in s slot.old given }
 {
-    if let Some(o) = slot {
-        let (lender, broker) = parts(given, o.rate, o.commission);
-        o.lender += lender;
-        o.broker += broker;
-        earned[o.security as usize] += lender + broker;
+    if let Some(offer) = slot {
+        let (lender, broker) = parts(given, offer.rate, offer.commission);
+        offer.lender += lender;
+        offer.broker += broker;
+        earned[offer.security as usize] += lender + broker;
     }
 }
 

@@ -36,8 +36,8 @@ fn ranks(offers: &[Option<Offer>; OFFER_PLACES]) -> [Rank; OFFER_PLACES]
 }
 
 /// The rate of the offer of a place; an empty place has 0.
-fn rate_of(offer: Option<Offer>) -> u32
-    ensures { result ≡ rate_of offer }
+fn rate_of(slot: Option<Offer>) -> u32
+    ensures { result ≡ rate_of slot }
 {
-    offer.map_or(0, |o| o.rate)
+    slot.map_or(0, |offer| offer.rate)
 }
