@@ -73,25 +73,9 @@ module _ (xs : List (Option Account)) (os : List (Option Offer)) where
   unfolding offers_after
   offers_are ys l h = fill_by_all (offer_after xs os) ys (length os) None l (λ k m. h k)
 
-  -- an empty place stays empty, and what stands at another is charged, or lent
-  pub account_none : (k : ℕ) → at xs k ≡ None → at (accounts_after xs os) k ≡ None
-  account_none k e = accounts_at k ∙ ap (option_map (λ a. charged a (own_fee xs os k))) e
-
-  pub account_some : (k : ℕ) (a : Account) → at xs k ≡ Some a → at (accounts_after xs os) k ≡ Some (charged a (own_fee xs os k))
-  account_some k a e = accounts_at k ∙ ap (option_map (λ a. charged a (own_fee xs os k))) e
-
-  pub offer_none : (k : ℕ) → at os k ≡ None → at (offers_after xs os) k ≡ None
-  offer_none k e = offers_at k ∙ ap (option_map (λ o. lent o (own_given xs os k))) e
-
-  pub offer_some : (k : ℕ) (o : Offer) → at os k ≡ Some o → at (offers_after xs os) k ≡ Some (lent o (own_given xs os k))
-  offer_some k o e = offers_at k ∙ ap (option_map (λ o. lent o (own_given xs os k))) e
-
-  -- a place is taken where it was
+  -- an account stands where one stood
   pub accounts_taken : (k : ℕ) → is_some (at (accounts_after xs os) k) ≡ is_some (at xs k)
   accounts_taken k = ap is_some (accounts_at k) ∙ taken_mapped (λ a. charged a (own_fee xs os k)) (at xs k)
-
-  pub offers_taken : (k : ℕ) → is_some (at (offers_after xs os) k) ≡ is_some (at os k)
-  offers_taken k = ap is_some (offers_at k) ∙ taken_mapped (λ o. lent o (own_given xs os k)) (at os k)
 
   -- the accounts are sound for one eleven more
   pub accounts_sound : (elevens : ℕ) → SoundAccounts elevens xs → SoundOffers elevens os → SoundAccounts (elevens + 1) (accounts_after xs os)

@@ -1,5 +1,5 @@
 -- The offers give, one after another in their order.
-use Rattle.std.proofs.Common.{◌≡◌, ℕ, ◌+◌, ◌-◌, ◌<◌, List, length, get_or, set, replicate, Some, None, Option, sym, refl, ap, ◌∙◌, subst, inl, inr, arith, length-set, get_or-set_other, get_or-set_same}
+use Rattle.std.proofs.Common.{◌≡◌, ℕ, ◌+◌, ◌-◌, ◌<◌, List, length, get_or, set, Some, None, Option, sym, refl, ap, ◌∙◌, subst, inl, inr, arith, length-set, get_or-set_other, get_or-set_same}
 use Rattle.std.proofs.lemmas.List.{get_or_past}
 use Rattle.std.proofs.lemmas.Bool.{cases_eq, cases_lt}
 use Rattle.std.proofs.lemmas.Bool.Decides.{nat_tests}
@@ -18,9 +18,6 @@ pub record Gave (os : List (Option Offer)) (needs : List ℕ) (ranks : List Rank
   pub long : length given ≡ offer_places
   pub left_is : (s : ℕ) → get_or left s 0 ≡ get_or needs s 0 - below j (λ m. offered_in s (at os (place_at ranks m)))
   pub given_is : (m : ℕ) → m < j → get_or given (place_at ranks m) 0 ≡ gives_at os (λ s. get_or needs s 0) (place_at ranks m) (at os (place_at ranks m))
-
-pub start : (os : List (Option Offer)) (needs : List ℕ) (ranks : List Rank) → Gave os needs ranks (replicate offer_places 0) needs 0
-start os needs ranks = record { long = refl; left_is = λ s. omega arith; given_is = λ m l. absurd (omega arith) }
 
 own_offered : (o : Offer) → offered_in o.security (Some o) ≡ o.units
 own_offered o = grind (arith, nat_tests)

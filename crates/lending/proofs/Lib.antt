@@ -1,4 +1,3 @@
-pub mod Products
 pub mod After
 pub mod Totals
 mod Ahead

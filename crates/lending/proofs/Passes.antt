@@ -1,5 +1,5 @@
 -- A table that is changed in place, one place after another.
-use Rattle.std.proofs.Common.{◌≡◌, ℕ, ◌+◌, ◌<◌, ◌≤◌, ◌≢◌, List, length, set, None, Option, sym, refl, ap, ◌∙◌, subst, inl, inr, arith, length-set, get_or-set_other, get_or-set_same}
+use Rattle.std.proofs.Common.{◌≡◌, ℕ, ◌+◌, ◌<◌, ◌≤◌, ◌≢◌, List, length, set, None, Option, sym, ap, ◌∙◌, subst, inl, inr, arith, length-set, get_or-set_other, get_or-set_same}
 use Rattle.std.proofs.lemmas.List.{get_or_past}
 use Rattle.std.proofs.lemmas.Bool.{cases_eq, cases_lt}
 use Rattle.std.specs.Option.{option_map}
@@ -10,9 +10,6 @@ pub record Passed {X : Type 0} (g : ℕ → X → X) (xs ys : List (Option X)) (
   pub long : length ys ≡ length xs
   pub done : (k : ℕ) → k < i → at ys k ≡ option_map (g k) (at xs k)
   pub rest : (k : ℕ) → i ≤ k → at ys k ≡ at xs k
-
-pub passed_none : {X : Type 0} (g : ℕ → X → X) (xs : List (Option X)) → Passed g xs xs 0
-passed_none g xs = record { long = refl; done = λ k l. absurd (omega arith); rest = λ k l. refl }
 
 pub passed_more : {X : Type 0} (g : ℕ → X → X) (xs ys : List (Option X)) (i : ℕ) (v : Option X) →
     Passed g xs ys i → i < length xs → v ≡ option_map (g i) (at xs i) → Passed g xs (set ys i v) (i + 1)
