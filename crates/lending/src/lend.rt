@@ -2,9 +2,9 @@
 ghost use Rattle.std.specs.Prelude.{◌≡◌, ℕ, ◌+◌, ◌-◌, ◌*◌, ◌≤◌, length, IfSome, slice_index};
 ghost use Rattle.std.specs.Option.{option_map};
 ghost use Rattle.sums.specs.Below.{below};
-ghost use Rattle.lending.specs.Measures.{shares, top_units};
-ghost use Rattle.lending.specs.Sound.{offer_places, top_rate, top_commission, top_fee, top_elevens, SoundOffer, SoundOffers};
-ghost use Rattle.lending.specs.Lending.{at, offered_in, hundredth, lent};
+ghost use Rattle.lending.specs.Measures.{top_units};
+ghost use Rattle.lending.specs.Sound.{offer_places, top_fee, top_elevens, SoundOffer, SoundOffers};
+ghost use Rattle.lending.specs.Lending.{at, offered_in, lent};
 ghost use Rattle.lending.specs.Eleven.{gives_at};
 ghost use Rattle.lending.specs.Steps.{takes, earns_in};
 
@@ -71,24 +71,11 @@ fn earn(slot: &mut Option<Offer>, given: u64, earned: &mut [u64; SECURITIES])
     ensures earned { (s : ℕ) → slice_index earned.new s ≡ slice_index earned.old s + earns_in s slot.old given }
 {
     if let Some(offer) = slot {
-        let (lender, broker) = parts(given, offer.rate, offer.commission);
+        let hundredth = SHARES / 100 * (given * offer.rate as u64);
+        let broker = hundredth * offer.commission as u64;
+        let lender = hundredth * (100 - offer.commission as u64);
         offer.lender += lender;
         offer.broker += broker;
         earned[offer.security as usize] += lender + broker;
     }
-}
-
-/// What `given` units earn at a rate: the lender's part, and the broker's, which is so many per cent.
-fn parts(given: u64, rate: u32, commission: u8) -> (u64, u64)
-    requires units { given ≤ top_units }
-    requires rate { rate ≤ top_rate }
-    requires commission { commission ≤ top_commission }
-    ensures lender { result.0 ≡ hundredth given rate * (100 - commission) }
-    ensures broker { result.1 ≡ hundredth given rate * commission }
-    ensures whole { result.0 + result.1 ≡ shares * (given * rate) }
-    ensures most { result.0 + result.1 ≤ top_fee }
-{
-    let hundredth = SHARES / 100 * (given * rate as u64);
-    let commission = commission as u64;
-    (hundredth * (100 - commission), hundredth * commission)
 }
