@@ -78,6 +78,7 @@ fn pay(
 }
 
 /// What the accounts of a security pay together, for the units of its need.
+// It is made for one account at a time: an array of them would need a bill of no security in each clause.
 #[derive(Clone, Copy)]
 struct Bill {
     all: u64,

@@ -1,5 +1,7 @@
 // The lending at eleven o'clock.
-ghost use Rattle.std.specs.Prelude.{◌≡◌, ℕ, ◌+◌, ◌*◌, ◌≤◌, length, slice_index};
+// The tables are the caller's plain arrays, and each step says what is sound of the one that it reads: a type that promised
+// it would be made anew for each step.
+ghost use Rattle.std.specs.Prelude.{◌≡◌, ℕ, ◌+◌};
 ghost use Rattle.lending.specs.Sound.{top_elevens, SoundAccounts, SoundOffers};
 ghost use Rattle.lending.specs.Eleven.{all_fees, all_vouchers, accounts_after, offers_after};
 

@@ -22,6 +22,7 @@ pub(crate) fn given(
     ensures units { (k : ℕ) → slice_index result k ≡ gives_at offers.now (λ s. slice_index left.old s) k (at offers.now k) }
     ensures left { (s : ℕ) → slice_index left.new s ≡ slice_index left.old s - below (length offers.now) (λ k. offered_in s (at offers.now k)) }
 {
+    // Beside the offers, by place: what an offer gives today is no part of what stands in the table.
     let mut given = [0; OFFER_PLACES];
     for rank in order(offers) {
         given[rank.place] = give(offers[rank.place], left);
@@ -41,6 +42,7 @@ pub(crate) fn lend(
     ensures after { (k : ℕ) → at offers.new k ≡ option_map (λ o. lent o (slice_index given.now k)) (at offers.old k) }
 {
     let mut earned = [0; SECURITIES];
+    // By place, and no `zip`: of the slots that a `zip` hands out nothing is known after the loop.
     for (place, slot) in offers.iter_mut().enumerate() {
         earn(slot, given[place], &mut earned);
     }

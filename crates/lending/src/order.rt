@@ -1,5 +1,5 @@
 // The order in which offers give: the lower rate first, and then the lower place.
-ghost use Rattle.std.specs.Prelude.{◌≡◌, ℕ, ◌<◌, map, length};
+ghost use Rattle.std.specs.Prelude.{◌≡◌, ℕ, ◌<◌, map};
 ghost use Rattle.std.specs.List.{range_with_len};
 ghost use Rattle.lending.specs.Sound.{offer_places};
 ghost use Rattle.lending.specs.Lending.{rate_of};
