@@ -1,7 +1,8 @@
 -- A table that is changed in place, one place after another.
-use Rattle.std.proofs.Common.{◌≡◌, ℕ, ◌+◌, ◌<◌, ◌≤◌, ◌≢◌, List, length, set, None, Option, sym, ap, ◌∙◌, subst, inl, inr, arith, length-set, get_or-set_other, get_or-set_same}
+use Rattle.std.proofs.Common.{◌≡◌, ℕ, ◌+◌, ◌<◌, ◌≤◌, List, length, set, None, Option, sym, ap, ◌∙◌, inl, inr, arith, length-set}
 use Rattle.std.proofs.lemmas.List.{get_or_past}
-use Rattle.std.proofs.lemmas.Bool.{cases_eq, cases_lt}
+use Rattle.std.proofs.lemmas.Grind.{common_steps}
+use Rattle.std.proofs.lemmas.Bool.{cases_lt}
 use Rattle.std.specs.Option.{option_map}
 use Rattle.lending.specs.Lending.{at}
 
@@ -15,13 +16,8 @@ pub passed_more : {X : Type 0} (g : ℕ → X → X) (xs ys : List (Option X)) (
     Passed g xs ys i → i < length xs → v ≡ option_map (g i) (at xs i) → Passed g xs (set ys i v) (i + 1)
 passed_more g xs ys i v p l e = record {
   long = length-set ys i v ∙ p.long;
-  done = λ k m. elim (cases_eq k i) [
-    | inl s ↦ subst (λ (j : ℕ). at (set ys i v) j ≡ option_map (g j) (at xs j)) (sym s) (get_or-set_same ys i v None (omega (arith, p.long)) ∙ e)
-    | inr ne ↦ get_or-set_other ys i k v None ne ∙ p.done k (omega (arith, ne))
-  ];
-  rest = λ k m.
-      let ne : k ≢ i = omega arith in
-      get_or-set_other ys i k v None ne ∙ p.rest k (omega arith);
+  done = λ k m. grind (arith, common_steps, p.done k, p.long);
+  rest = λ k m. grind (arith, common_steps, p.rest k);
 }
 
 pub passed_all : {X : Type 0} (g : ℕ → X → X) (xs ys : List (Option X)) (i : ℕ) →

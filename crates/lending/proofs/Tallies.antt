@@ -1,22 +1,15 @@
 -- Sums that are kept for each security, and the sum of a whole list.
-use Rattle.std.proofs.Common.{◌≡◌, ℕ, zero, suc, ◌+◌, ◌*◌, ◌<◌, ◌≤◌, cond, eqb, List, length, get_or, set, take, sum, sum_by, sym, refl, ap, ◌∙◌, inl, inr, add-one, arith, get_or-set_other, get_or-set_same}
+use Rattle.std.proofs.Common.{◌≡◌, ℕ, zero, suc, ◌+◌, ◌*◌, ◌<◌, ◌≤◌, cond, eqb, List, length, get_or, set, take, sum, sum_by, sym, refl, ap, ◌∙◌, add-one, arith}
 use lib.Seq.{take-length}
-use Rattle.std.proofs.lemmas.Bool.{cases_eq, eq-eqb, ne_eqb}
+use Rattle.std.proofs.lemmas.Bool.Decides.{nat_tests}
+use Rattle.std.proofs.lemmas.Grind.{common_steps}
 use Rattle.std.proofs.lemmas.List.Sums.{sum_by_more}
 use Rattle.sums.specs.Below.{below}
 use Rattle.sums.proofs.Sums.{below_same, below_most}
 
 -- n more at place i, and nowhere else
 pub added : (sums : List ℕ) (i n s : ℕ) → i < length sums → get_or (set sums i (get_or sums i 0 + n)) s 0 ≡ get_or sums s 0 + cond (eqb i s) n 0
-added sums i n s l =
-    elim (cases_eq s i) [
-      | inl e ↦
-          let yes : cond (eqb i s) n 0 ≡ n = ap (λ b. cond b n 0) (eq-eqb i s (sym e)) in
-          omega (arith, ap (λ k. get_or (set sums i (get_or sums i 0 + n)) k 0) e, get_or-set_same sums i (get_or sums i 0 + n) 0 l, ap (λ k. get_or sums k 0) e)
-      | inr ne ↦
-          let no : cond (eqb i s) n 0 ≡ 0 = ap (λ b. cond b n 0) (ne_eqb i s (λ e. ne (sym e))) in
-          omega (arith, get_or-set_other sums i s (get_or sums i 0 + n) 0 ne)
-    ]
+added sums i n s l = grind (arith, common_steps, nat_tests)
 
 sum_front : {X : Type 0} (f : X → ℕ) (d : X) (xs : List X) (i : ℕ) → i ≤ length xs → below i (λ j. f (get_or xs j d)) ≡ sum_by f (take i xs)
 sum_front f d xs zero l = refl
