@@ -1,8 +1,7 @@
 -- A table that is changed in place, one place after another.
-use Rattle.std.proofs.Common.{◌≡◌, ℕ, ◌+◌, ◌<◌, ◌≤◌, List, length, set, None, Option, sym, ap, ◌∙◌, inl, inr, arith, length-set}
+use Rattle.std.proofs.Common.{◌≡◌, ℕ, ◌+◌, ◌<◌, ◌≤◌, List, length, set, None, Option, ◌∙◌, arith, length-set}
 use Rattle.std.proofs.lemmas.List.{get_or_past}
 use Rattle.std.proofs.lemmas.Grind.{common_steps}
-use Rattle.std.proofs.lemmas.Bool.{cases_lt}
 use Rattle.std.specs.Option.{option_map}
 use Rattle.lending.specs.Lending.{at}
 
@@ -22,10 +21,4 @@ passed_more g xs ys i v p l e = record {
 
 pub passed_all : {X : Type 0} (g : ℕ → X → X) (xs ys : List (Option X)) (i : ℕ) →
     Passed g xs ys i → length xs ≤ i → (k : ℕ) → at ys k ≡ option_map (g k) (at xs k)
-passed_all g xs ys i p l k =
-    elim (cases_lt k i) [
-      | inl m ↦ p.done k m
-      | inr m ↦
-          let past : at xs k ≡ None = get_or_past xs k None (omega arith) in
-          p.rest k m ∙ past ∙ ap (option_map (g k)) (sym past)
-    ]
+passed_all g xs ys i p l k = grind (arith, common_steps, p.done k, p.rest k, get_or_past xs k None)
