@@ -1,9 +1,9 @@
 -- The tables after eleven, place by place.
-use Rattle.std.proofs.Common.{◌≡◌, ℕ, ◌+◌, ◌≤◌, cond, List, map, length, ℤ, pos, ◌-ℤ◌, is_some, Some, None, Option, sym, refl, ap, ◌∙◌, subst, inl, inr, arith}
+use Rattle.std.proofs.Common.{◌≡◌, ℕ, ◌+◌, ◌≤◌, cond, List, map, length, ℤ, pos, ◌-ℤ◌, is_some, Some, None, Option, sym, refl, ap, ◌∙◌, subst, arith}
 use Rattle.std.proofs.lemmas.List.FromFn.{length-map-range_with_len, get_or-map-range_with_len, fill_by_all}
 use Rattle.std.proofs.lemmas.List.{get_or_past}
+use Rattle.std.proofs.lemmas.Grind.{common_steps}
 use Rattle.std.proofs.lemmas.Int.{ints}
-use Rattle.std.proofs.lemmas.Bool.{cases_lt}
 use Rattle.std.specs.List.{range_with_len}
 use Rattle.std.specs.Option.{option_map}
 use Rattle.sums.specs.Below.{below}
@@ -30,12 +30,7 @@ module _ {X : Type 0} (g : ℕ → X → X) (xs : List (Option X)) where
 
   made_at : (k : ℕ) → at (map made (range_with_len 0 (length xs))) k ≡ option_map (g k) (at xs k)
   made_at k =
-      elim (cases_lt k (length xs)) [
-        | inl l ↦ get_or-map-range_with_len made 0 (length xs) k k None l (omega arith)
-        | inr l ↦
-            get_or_past (map made (range_with_len 0 (length xs))) k None (omega (arith, length-map-range_with_len made 0 (length xs)))
-            ∙ sym (ap (option_map (g k)) (get_or_past xs k None l))
-      ]
+      grind (arith, common_steps, length-map-range_with_len made 0 (length xs), get_or-map-range_with_len made 0 (length xs) k k None, get_or_past xs k None)
 
 taken_mapped : {X : Type 0} (g : X → X) (p : Option X) → is_some (option_map g p) ≡ is_some p
 taken_mapped g None = refl
