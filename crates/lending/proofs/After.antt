@@ -1,9 +1,9 @@
 -- The tables after eleven, place by place.
-use Rattle.std.proofs.Common.{◌≡◌, ℕ, ◌+◌, ◌≤◌, cond, List, map, length, ℤ, pos, ◌-ℤ◌, is_some, Some, None, Option, sym, refl, ap, ◌∙◌, subst, inl, inr, arith}
+use Rattle.std.proofs.Common.{◌≡◌, ℕ, ◌+◌, ◌≤◌, cond, List, map, length, ℤ, pos, ◌-ℤ◌, is_some, Some, None, Option, sym, refl, ap, ◌∙◌, subst, arith}
 use Rattle.std.proofs.lemmas.List.FromFn.{length-map-range_with_len, get_or-map-range_with_len, fill_by_all}
 use Rattle.std.proofs.lemmas.List.{get_or_past}
+use Rattle.std.proofs.lemmas.Grind.{common_steps}
 use Rattle.std.proofs.lemmas.Int.{ints}
-use Rattle.std.proofs.lemmas.Bool.{cases_lt}
 use Rattle.std.specs.List.{range_with_len}
 use Rattle.std.specs.Option.{option_map}
 use Rattle.sums.specs.Below.{below}
@@ -30,12 +30,7 @@ module _ {X : Type 0} (g : ℕ → X → X) (xs : List (Option X)) where
 
   made_at : (k : ℕ) → at (map made (range_with_len 0 (length xs))) k ≡ option_map (g k) (at xs k)
   made_at k =
-      elim (cases_lt k (length xs)) [
-        | inl l ↦ get_or-map-range_with_len made 0 (length xs) k k None l (omega arith)
-        | inr l ↦
-            get_or_past (map made (range_with_len 0 (length xs))) k None (omega (arith, length-map-range_with_len made 0 (length xs)))
-            ∙ sym (ap (option_map (g k)) (get_or_past xs k None l))
-      ]
+      grind (arith, common_steps, length-map-range_with_len made 0 (length xs), get_or-map-range_with_len made 0 (length xs) k k None, get_or_past xs k None)
 
 taken_mapped : {X : Type 0} (g : X → X) (p : Option X) → is_some (option_map g p) ≡ is_some p
 taken_mapped g None = refl
@@ -73,25 +68,9 @@ module _ (xs : List (Option Account)) (os : List (Option Offer)) where
   unfolding offers_after
   offers_are ys l h = fill_by_all (offer_after xs os) ys (length os) None l (λ k m. h k)
 
-  -- an empty place stays empty, and what stands at another is charged, or lent
-  pub account_none : (k : ℕ) → at xs k ≡ None → at (accounts_after xs os) k ≡ None
-  account_none k e = accounts_at k ∙ ap (option_map (λ a. charged a (own_fee xs os k))) e
-
-  pub account_some : (k : ℕ) (a : Account) → at xs k ≡ Some a → at (accounts_after xs os) k ≡ Some (charged a (own_fee xs os k))
-  account_some k a e = accounts_at k ∙ ap (option_map (λ a. charged a (own_fee xs os k))) e
-
-  pub offer_none : (k : ℕ) → at os k ≡ None → at (offers_after xs os) k ≡ None
-  offer_none k e = offers_at k ∙ ap (option_map (λ o. lent o (own_given xs os k))) e
-
-  pub offer_some : (k : ℕ) (o : Offer) → at os k ≡ Some o → at (offers_after xs os) k ≡ Some (lent o (own_given xs os k))
-  offer_some k o e = offers_at k ∙ ap (option_map (λ o. lent o (own_given xs os k))) e
-
-  -- a place is taken where it was
+  -- an account stands where one stood
   pub accounts_taken : (k : ℕ) → is_some (at (accounts_after xs os) k) ≡ is_some (at xs k)
   accounts_taken k = ap is_some (accounts_at k) ∙ taken_mapped (λ a. charged a (own_fee xs os k)) (at xs k)
-
-  pub offers_taken : (k : ℕ) → is_some (at (offers_after xs os) k) ≡ is_some (at os k)
-  offers_taken k = ap is_some (offers_at k) ∙ taken_mapped (λ o. lent o (own_given xs os k)) (at os k)
 
   -- the accounts are sound for one eleven more
   pub accounts_sound : (elevens : ℕ) → SoundAccounts elevens xs → SoundOffers elevens os → SoundAccounts (elevens + 1) (accounts_after xs os)

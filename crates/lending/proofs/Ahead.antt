@@ -1,5 +1,5 @@
 -- The order of the offers: those of a security give the need, or all that they have.
-use Rattle.std.proofs.Common.{◌≡◌, ℕ, zero, suc, ◌+◌, ◌-◌, ◌<◌, ◌≤◌, min, Bool, true, false, cond, ◌⊎◌, List, length, Option, refl, ap, inl, inr, arith}
+use Rattle.std.proofs.Common.{◌≡◌, ℕ, zero, suc, ◌+◌, ◌-◌, ◌<◌, ◌≤◌, min, Bool, true, false, cond, ◌⊎◌, List, length, Option, ap, inl, inr, arith}
 use Rattle.std.proofs.lemmas.Bool.{cases_lt, cases_Bool}
 use Rattle.std.proofs.lemmas.Bool.Decides.{nat_tests}
 use Rattle.sums.specs.Below.{below}
@@ -17,14 +17,10 @@ pub sooner_total : (e i f j : ℕ) → (i ≡ j → ⊥) → sooner e i f j ≡ 
 sooner_total e i f j n p = grind (arith, nat_tests)
 
 cond_le : (a b : Bool) (v : ℕ) → (a ≡ true → b ≡ true) → cond a v 0 ≤ cond b v 0
-cond_le true true v h = omega arith
-cond_le true false v h = let z = h refl in absurd (grind (arith, nat_tests))
-cond_le false true v h = omega arith
-cond_le false false v h = omega arith
+cond_le a b v h = grind (arith, nat_tests)
 
 cond_under : (a : Bool) (v : ℕ) → cond a v 0 ≤ v
-cond_under true v = omega arith
-cond_under false v = omega arith
+cond_under a v = grind (arith, nat_tests)
 
 -- what all offers of a security have
 abbrev pub offered_all : List (Option Offer) → ℕ → ℕ

@@ -1,21 +1,16 @@
 -- How much one account or one offer can have, pay and earn.
-use Rattle.std.proofs.Common.{◌≡◌, ℕ, ◌+◌, ◌-◌, ◌*◌, ◌≤◌, true, cond, ◌≤ℤ◌, Some, None, Option, refl, ap, mul-le-mul, mul-le-mul_left, mul-add, arith}
-use Rattle.std.proofs.lemmas.Int.{ints}
+use Rattle.std.proofs.Common.{◌≡◌, ℕ, ◌+◌, ◌-◌, ◌*◌, ◌≤◌, Some, None, Option, refl, ap, mul-le-mul, mul-le-mul_left, mul-add, arith}
 use Rattle.std.proofs.lemmas.Bool.Decides.{nat_tests}
 use Rattle.lending.specs.declared.account.Account.{Account}
 use Rattle.lending.specs.declared.offer.Offer.{Offer}
 use Rattle.lending.specs.Measures.{shares, top_units}
-use Rattle.lending.specs.Sound.{top_rate, top_commission, top_fee, top_cost, lowest, SoundAccount, SoundOffer}
+use Rattle.lending.specs.Sound.{top_rate, top_commission, top_fee, SoundAccount, SoundOffer}
 use Rattle.lending.specs.Lending.{units_in, offered_in, rate_of, hundredth, earns, lent}
 use Rattle.lending.specs.Steps.{earns_in}
 
 pub units_most : (elevens s : ℕ) (p : Option Account) → ((a : Account) → p ≡ Some a → SoundAccount elevens a) → units_in s p ≤ top_units
 units_most elevens s None h = omega arith
 units_most elevens s (Some a) h = let most = (h a refl).0.1 in grind (arith, nat_tests)
-
--- how low the balance of any account is, barred or not
-pub balance_low : (elevens : ℕ) (a : Account) → SoundAccount elevens a → lowest elevens true ≤ℤ a.balance
-balance_low elevens a h = let cost : cond a.barred top_cost 0 ≤ top_cost = grind (arith, nat_tests) in omega (arith, ints, h.1.0)
 
 pub offered_most : (elevens s : ℕ) (p : Option Offer) → ((o : Offer) → p ≡ Some o → SoundOffer elevens o) → offered_in s p ≤ top_units
 offered_most elevens s None h = omega arith

@@ -1,6 +1,7 @@
 -- The offers give, one after another in their order.
-use Rattle.std.proofs.Common.{◌≡◌, ℕ, ◌+◌, ◌-◌, ◌<◌, List, length, get_or, set, replicate, Some, None, Option, sym, refl, ap, ◌∙◌, subst, inl, inr, arith, length-set, get_or-set_other, get_or-set_same}
+use Rattle.std.proofs.Common.{◌≡◌, ℕ, ◌+◌, ◌-◌, ◌<◌, List, length, get_or, set, Some, None, Option, sym, refl, ap, ◌∙◌, subst, inl, inr, arith, length-set}
 use Rattle.std.proofs.lemmas.List.{get_or_past}
+use Rattle.std.proofs.lemmas.Grind.{common_steps}
 use Rattle.std.proofs.lemmas.Bool.{cases_eq, cases_lt}
 use Rattle.std.proofs.lemmas.Bool.Decides.{nat_tests}
 use Rattle.sums.specs.Below.{below}
@@ -18,9 +19,6 @@ pub record Gave (os : List (Option Offer)) (needs : List ℕ) (ranks : List Rank
   pub long : length given ≡ offer_places
   pub left_is : (s : ℕ) → get_or left s 0 ≡ get_or needs s 0 - below j (λ m. offered_in s (at os (place_at ranks m)))
   pub given_is : (m : ℕ) → m < j → get_or given (place_at ranks m) 0 ≡ gives_at os (λ s. get_or needs s 0) (place_at ranks m) (at os (place_at ranks m))
-
-pub start : (os : List (Option Offer)) (needs : List ℕ) (ranks : List Rank) → Gave os needs ranks (replicate offer_places 0) needs 0
-start os needs ranks = record { long = refl; left_is = λ s. omega arith; given_is = λ m l. absurd (omega arith) }
 
 own_offered : (o : Offer) → offered_in o.security (Some o) ≡ o.units
 own_offered o = grind (arith, nat_tests)
@@ -45,15 +43,11 @@ module _ (os : List (Option Offer)) (needs : List ℕ) (ranks : List Rank) (o : 
       record {
         long = length-set given (place_at ranks j) v ∙ h.long;
         left_is = λ s. omega (arith, less s, h.left_is s, below_more j (λ m. offered_in s (at os (place_at ranks m))));
-        given_is = λ m k. elim (cases_eq (place_at ranks m) (place_at ranks j)) [
-          | inl same ↦ subst (λ (i : ℕ). get_or (set given (place_at ranks j) v) i 0 ≡ gives_at os (λ s. get_or needs s 0) i (at os i)) (sym same)
-              (get_or-set_same given (place_at ranks j) v 0 (omega (arith, h.long, place_inside os ranks o j l)) ∙ own)
-          | inr other ↦ get_or-set_other given (place_at ranks j) (place_at ranks m) v 0 other ∙ h.given_is m (before m k other)
+        given_is = λ m k. elim (cases_eq m j) [
+          | inl same ↦ grind (arith, common_steps, own, h.long, place_inside os ranks o j l)
+          | inr other ↦ grind (arith, common_steps, own, h.long, h.given_is m (omega (arith, other)), place_inside os ranks o j l)
         ];
       }
-    where
-      before : (m : ℕ) → m < j + 1 → (place_at ranks m ≡ place_at ranks j → ⊥) → m < j
-      before m k other = elim (cases_eq m j) [ inl e ↦ absurd (other (ap (place_at ranks) e)) | inr ne ↦ omega (arith, ne) ]
 
   pub gave_all : (given left : List ℕ) → Gave os needs ranks given left (length os) → (k : ℕ) → get_or given k 0 ≡ gives_at os (λ s. get_or needs s 0) k (at os k)
   gave_all given left h k =

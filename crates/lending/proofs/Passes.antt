@@ -1,36 +1,24 @@
 -- A table that is changed in place, one place after another.
-use Rattle.std.proofs.Common.{◌≡◌, ℕ, ◌+◌, ◌<◌, ◌≤◌, ◌≢◌, List, length, set, None, Option, sym, refl, ap, ◌∙◌, subst, inl, inr, arith, get_or-set_other, get_or-set_same}
+use Rattle.std.proofs.Common.{◌≡◌, ℕ, ◌+◌, ◌<◌, ◌≤◌, List, length, set, None, Option, ◌∙◌, arith, length-set}
 use Rattle.std.proofs.lemmas.List.{get_or_past}
-use Rattle.std.proofs.lemmas.Bool.{cases_eq, cases_lt}
+use Rattle.std.proofs.lemmas.Grind.{common_steps}
 use Rattle.std.specs.Option.{option_map}
 use Rattle.lending.specs.Lending.{at}
 
--- the places of xs below i are changed in ys, each by its own g
+-- ys is as long as xs, and the places below i are changed, each by its own g
 pub record Passed {X : Type 0} (g : ℕ → X → X) (xs ys : List (Option X)) (i : ℕ) : Type 0 where
+  pub long : length ys ≡ length xs
   pub done : (k : ℕ) → k < i → at ys k ≡ option_map (g k) (at xs k)
   pub rest : (k : ℕ) → i ≤ k → at ys k ≡ at xs k
 
-pub passed_none : {X : Type 0} (g : ℕ → X → X) (xs : List (Option X)) → Passed g xs xs 0
-passed_none g xs = record { done = λ k l. absurd (omega arith); rest = λ k l. refl }
-
 pub passed_more : {X : Type 0} (g : ℕ → X → X) (xs ys : List (Option X)) (i : ℕ) (v : Option X) →
-    Passed g xs ys i → i < length ys → v ≡ option_map (g i) (at xs i) → Passed g xs (set ys i v) (i + 1)
+    Passed g xs ys i → i < length xs → v ≡ option_map (g i) (at xs i) → Passed g xs (set ys i v) (i + 1)
 passed_more g xs ys i v p l e = record {
-  done = λ k m. elim (cases_eq k i) [
-    | inl s ↦ subst (λ (j : ℕ). at (set ys i v) j ≡ option_map (g j) (at xs j)) (sym s) (get_or-set_same ys i v None l ∙ e)
-    | inr ne ↦ get_or-set_other ys i k v None ne ∙ p.done k (omega (arith, ne))
-  ];
-  rest = λ k m.
-      let ne : k ≢ i = omega arith in
-      get_or-set_other ys i k v None ne ∙ p.rest k (omega arith);
+  long = length-set ys i v ∙ p.long;
+  done = λ k m. grind (arith, common_steps, p.done k, p.long);
+  rest = λ k m. grind (arith, common_steps, p.rest k);
 }
 
 pub passed_all : {X : Type 0} (g : ℕ → X → X) (xs ys : List (Option X)) (i : ℕ) →
     Passed g xs ys i → length xs ≤ i → (k : ℕ) → at ys k ≡ option_map (g k) (at xs k)
-passed_all g xs ys i p l k =
-    elim (cases_lt k i) [
-      | inl m ↦ p.done k m
-      | inr m ↦
-          let past : at xs k ≡ None = get_or_past xs k None (omega arith) in
-          p.rest k m ∙ past ∙ ap (option_map (g k)) (sym past)
-    ]
+passed_all g xs ys i p l k = grind (arith, common_steps, p.done k, p.rest k, get_or_past xs k None)

@@ -1,9 +1,7 @@
 -- Sorted ranks are in order.
-use Rattle.std.proofs.Common.{◌≡◌, ℕ, zero, suc, ◌+◌, ◌≤◌, List, map, length, get_or, take, sum_by, Option, Ordering, sym, refl, ap, ◌∙◌, add-one, arith}
-use lib.Seq.{take-length}
+use Rattle.std.proofs.Common.{◌≡◌, ◌+◌, List, map, length, get_or, Option, Ordering, sym, ap, ◌∙◌, arith}
 use Rattle.std.proofs.lemmas.List.FromFn.{length-map-range_with_len, get_or-map-range_with_len}
 use Rattle.std.proofs.lemmas.List.Sorted.{sum_by-IsPermutation, sorted_far}
-use Rattle.std.proofs.lemmas.List.Sums.{sum_by_more}
 use Rattle.std.proofs.lemmas.Bool.Decides.{nat_tests}
 use Rattle.std.specs.List.{range_with_len}
 use Rattle.std.specs.Ordering.{is_lt, nat_cmp, ordering_then}
@@ -11,18 +9,10 @@ use Rattle.std.specs.List.Sorted.{IsPermutation, IsSortedWithin}
 use Rattle.std.specs.Cmp.{IsStrictWeakOrder}
 use Rattle.sums.specs.Below.{below}
 use Rattle.sums.proofs.Sums.{below_same}
+use Rattle.lending.proofs.Tallies.{sum_all}
 use Rattle.lending.specs.declared.offer.Offer.{Offer}
 use Rattle.lending.specs.declared.order.Rank.{Rank}
 use Rattle.lending.specs.Steps.{rank_at, earlier, lowest_rank, nth, Ordered}
-
-sum_front : (f : Rank → ℕ) (xs : List Rank) (i : ℕ) → i ≤ length xs → below i (λ j. f (nth xs j)) ≡ sum_by f (take i xs)
-sum_front f xs zero l = refl
-sum_front f xs (suc i) l =
-    omega (arith, sum_front f xs i (omega arith), sum_by_more f xs i lowest_rank (omega arith), ap (λ n. sum_by f (take n xs)) (add-one i))
-
--- a sum over the places of a list is that over the list
-sum_all : (f : Rank → ℕ) (xs : List Rank) → below (length xs) (λ j. f (nth xs j)) ≡ sum_by f xs
-sum_all f xs = sum_front f xs (length xs) (omega arith) ∙ ap (sum_by f) (take-length xs)
 
 -- the order that ranks derive
 abbrev pub by_rate_and_place : Rank → Rank → Ordering
@@ -43,7 +33,7 @@ sorted os ranks after made same long up = record {
   rising = λ i j l m. sorted_far earlier earlier_ranks after (λ k d l m. sym (less_earlier (get_or after (k + 1) d) (get_or after k d)) ∙ up k d l (omega arith)) i j lowest_rank l m;
   same = λ f.
       ap (λ n. below n (λ j. f (nth after j))) (sym size)
-      ∙ sum_all f after ∙ sum_by-IsPermutation f ranks after same ∙ sym (sum_all f ranks)
+      ∙ sum_all f lowest_rank after ∙ sum_by-IsPermutation f ranks after same ∙ sym (sum_all f lowest_rank ranks)
       ∙ ap (λ n. below n (λ j. f (nth ranks j))) ranks_size
       ∙ below_same (length os) (λ j. f (nth ranks j)) (λ k. f (rank_at os k))
       (λ k l. ap f (ap (λ xs. nth xs k) made ∙ get_or-map-range_with_len (rank_at os) 0 (length os) k k lowest_rank l (omega arith)));

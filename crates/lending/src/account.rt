@@ -1,5 +1,5 @@
 /// One firm's loan in one security.
-#[derive(Clone, Copy)]
+#[derive(Clone, Copy, Debug, PartialEq, Eq)]
 pub struct Account {
     pub firm: u16,
     pub security: u8,

@@ -1,20 +1,22 @@
 // The lending at eleven o'clock.
-ghost use Rattle.std.specs.Prelude.{◌≡◌, ℕ, ◌+◌, ◌*◌, ◌≤◌, length, slice_index};
-ghost use Rattle.sums.specs.Below.{below};
-ghost use Rattle.lending.specs.Sound.{securities, account_places, offer_places, top_fee, top_elevens, SoundAccounts, SoundOffers};
+// The tables are the caller's plain arrays, and each step says what is sound of the one that it reads: a type that promised
+// it would be made anew for each step.
+ghost use Rattle.std.specs.Prelude.{◌≡◌, ℕ, ◌+◌};
+ghost use Rattle.lending.specs.Sound.{top_elevens, SoundAccounts, SoundOffers};
 ghost use Rattle.lending.specs.Eleven.{all_fees, all_vouchers, accounts_after, offers_after};
 
 use crate::account::Account;
 use crate::charge::{charge, needs};
 use crate::lend::{given, lend};
 use crate::offer::Offer;
-use crate::sizes::SECURITIES;
+use crate::sizes::{ACCOUNT_PLACES, OFFER_PLACES};
 
 /// Offers give what the accounts need, and earn for it what the accounts pay:
 /// the cents of all fees, and the units that go by voucher since no offer gives them.
-pub fn eleven(accounts: &mut [Option<Account>], offers: &mut [Option<Offer>]) -> (u64, u64)
-    requires accounts { length accounts.old ≡ account_places }
-    requires offers { length offers.old ≡ offer_places }
+pub fn eleven(
+    accounts: &mut [Option<Account>; ACCOUNT_PLACES],
+    offers: &mut [Option<Offer>; OFFER_PLACES],
+) -> (u64, u64)
     requires loans { SoundAccounts top_elevens accounts.old }
     requires lenders { SoundOffers top_elevens offers.old }
     ensures fees { result.0 ≡ all_fees accounts.old offers.old }
@@ -29,18 +31,5 @@ pub fn eleven(accounts: &mut [Option<Account>], offers: &mut [Option<Offer>]) ->
     let given = given(offers, &mut left);
     let earned = lend(offers, &given);
     charge(accounts, &needs, &earned);
-    (total(&earned), total(&left))
-}
-
-/// The sum over all securities.
-fn total(sums: &[u64]) -> u64
-    requires sums_len { length sums.now ≡ securities }
-    requires by_index { (s : ℕ) → slice_index sums.now s ≤ offer_places * top_fee }
-    ensures { result ≡ below securities (λ s. slice_index sums.now s) }
-{
-    let mut total = 0;
-    for s in 0..SECURITIES {
-        total += sums[s];
-    }
-    total
+    (earned.iter().sum(), left.iter().sum())
 }

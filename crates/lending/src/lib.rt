@@ -14,4 +14,4 @@ pub use account::Account;
 pub use clock::eleven;
 pub use measures::{SHARES, floor, target};
 pub use offer::Offer;
-pub use sizes::{OFFER_PLACES, SECURITIES};
+pub use sizes::{ACCOUNT_PLACES, OFFER_PLACES, SECURITIES};

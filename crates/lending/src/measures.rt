@@ -12,6 +12,8 @@ const OWED_FLOOR: u64 = 107 * SHARES / 100;
 
 const OWED_TARGET: u64 = 114 * SHARES / 100;
 
+// Both public measures take plain numbers, as accounts and callers hold them, so each says how large they may be.
+
 /// The cover below which an account gets a notice.
 pub fn floor(owed: u16, applied: u16, price: u32) -> u64
     requires units { owed + applied ≤ top_units }

@@ -1,5 +1,5 @@
 /// A lender's offer of units of a security, which stands until it is withdrawn.
-#[derive(Clone, Copy)]
+#[derive(Clone, Copy, Debug, PartialEq, Eq)]
 pub struct Offer {
     pub security: u8,
     pub units: u16,

@@ -1,9 +1,7 @@
 // The order in which offers give: the lower rate first, and then the lower place.
-ghost use Rattle.std.specs.Prelude.{◌≡◌, ℕ, ◌<◌, map, length};
-ghost use Rattle.std.specs.List.{range_with_len};
+ghost use Rattle.std.specs.Prelude.{ℕ, ◌<◌};
 ghost use Rattle.lending.specs.Sound.{offer_places};
-ghost use Rattle.lending.specs.Lending.{rate_of};
-ghost use Rattle.lending.specs.Steps.{rank_at, place_at, Ordered};
+ghost use Rattle.lending.specs.Steps.{place_at, Ordered};
 
 use crate::offer::Offer;
 use crate::sizes::OFFER_PLACES;
@@ -15,38 +13,15 @@ pub(crate) struct Rank {
     pub(crate) place: usize,
 }
 
-/// The ranks of all places, in rising order.
-pub(crate) fn order(offers: &[Option<Offer>]) -> [Rank; OFFER_PLACES]
-    requires { length offers.now ≡ offer_places }
+/// The ranks of all places, in rising order. An empty place has the rate 0.
+pub(crate) fn order(offers: &[Option<Offer>; OFFER_PLACES]) -> [Rank; OFFER_PLACES]
     ensures ordered { Ordered offers.now result }
     ensures inside { (j : ℕ) → j < offer_places → place_at result j < offer_places }
 {
-    let mut ranks = ranks(offers);
+    let mut ranks = std::array::from_fn(|place| Rank {
+        rate: offers[place].map_or(0, |offer| offer.rate),
+        place,
+    });
     ranks.sort_unstable();
     ranks
-}
-
-/// The rank of each place.
-fn ranks(offers: &[Option<Offer>]) -> [Rank; OFFER_PLACES]
-    requires { length offers.now ≡ offer_places }
-    ensures { result ≡ map (rank_at offers.now) (range_with_len 0 (length offers.now)) }
-{
-    let mut ranks = [Rank { rate: 0, place: 0 }; OFFER_PLACES];
-    for k in 0..OFFER_PLACES {
-        ranks[k] = Rank {
-            rate: rate_of(offers[k]),
-            place: k,
-        };
-    }
-    ranks
-}
-
-/// The rate of the offer of a place; an empty place has 0.
-fn rate_of(offer: Option<Offer>) -> u32
-    ensures { result ≡ rate_of offer }
-{
-    match offer {
-        Some(o) => o.rate,
-        None => 0,
-    }
 }

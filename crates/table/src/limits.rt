@@ -1,11 +1,11 @@
 // How many places there are, and how large a number may be.
 
 /// Account places, numbered from 0.
-pub const ACCOUNT_PLACES: u8 = 64;
+pub const ACCOUNT_PLACES: u8 = lending::ACCOUNT_PLACES as u8;
 /// Offer places, numbered from 0.
-pub const OFFER_PLACES: u16 = 256;
+pub const OFFER_PLACES: u16 = lending::OFFER_PLACES as u16;
 /// Securities, numbered from 0.
-pub const SECURITIES: u8 = 8;
+pub const SECURITIES: u8 = lending::SECURITIES as u8;
 /// The last day.
 pub(crate) const LAST_DAY: u16 = 60_000;
 /// The highest price, in cents for each share.

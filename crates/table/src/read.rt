@@ -9,7 +9,7 @@ use super::hour::Hour;
 use super::ledger::Ledger;
 use super::table::Table;
 use bits::Places;
-use lending::{Account, Offer};
+use lending::{ACCOUNT_PLACES, Account, OFFER_PLACES, Offer, SECURITIES};
 
 impl Ledger {
     /// The blank hour of day 0, with every place empty.
@@ -20,9 +20,9 @@ impl Ledger {
             table: Table {
                 day: 0,
                 hour: Hour::Blank,
-                prices: [0; 8],
-                accounts: [None; 64],
-                offers: [None; 256],
+                prices: [0; SECURITIES],
+                accounts: [None; ACCOUNT_PLACES],
+                offers: [None; OFFER_PLACES],
                 notices: Places::none(),
                 slips: Places::none(),
             },

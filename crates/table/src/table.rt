@@ -1,6 +1,6 @@
 use super::hour::Hour;
 use bits::Places;
-use lending::{Account, Offer};
+use lending::{ACCOUNT_PLACES, Account, OFFER_PLACES, Offer, SECURITIES};
 
 /// All that a book knows, with nothing promised about it.
 #[derive(Drop)]
@@ -8,9 +8,9 @@ pub struct Table {
     pub day: u16,
     pub hour: Hour,
     /// By security, in cents for each share.
-    pub prices: [u32; 8],
-    pub accounts: [Option<Account>; 64],
-    pub offers: [Option<Offer>; 256],
+    pub prices: [u32; SECURITIES],
+    pub accounts: [Option<Account>; ACCOUNT_PLACES],
+    pub offers: [Option<Offer>; OFFER_PLACES],
     /// The accounts that have an open notice.
     pub notices: Places,
     /// The accounts that a slip is out for.

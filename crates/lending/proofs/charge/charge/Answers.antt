@@ -1,35 +1,22 @@
 use Rattle.std.proofs.Common.{length, arith}
 use Rattle.lending.specs.Sound.{top_elevens}
 use Rattle.lending.proofs.Passes.{passed_all}
-use Rattle.lending.proofs.Fees.{pay_at, units_below_most, step, sound_here, within}
+use Rattle.lending.proofs.Fees.{pay_at, units_below_most, step, within}
 use Rattle.lending.proofs.charge.charge.Goals as goal
 
-pub pay-requires : goal.pay-requires
-pay-requires c =
-    let xs = c.args.accounts.now in
-    record {
-      needs = c.requires.needs;
-      earned = c.requires.earned;
-      earlier = c.loop-k.invariant.long;
-      within = within top_elevens xs c.requires.sound c.args.earned.now c.loop-k.accounts c.loop-k.earlier c.loop-k.k c.loop-k.invariant c.args.needs.now (omega arith) c.requires.need;
-      need = λ s. omega (arith, c.requires.need s, units_below_most top_elevens xs c.requires.sound s (length xs));
-      most = c.requires.most;
-      sound = sound_here top_elevens xs c.requires.sound c.args.earned.now c.loop-k.accounts c.loop-k.earlier c.loop-k.k c.loop-k.invariant;
-    }
+pub pay-requires-clause-within : goal.pay-requires-clause-within
+pay-requires-clause-within c = within c.args.accounts.now c.args.earned.now c.loop-slot.slot-items c.loop-slot.earlier c.loop-slot.slot-index c.loop-slot.invariant c.args.needs.now (omega arith) c.requires.need
 
-pub count-requires : goal.count-requires
-count-requires c =
-    let xs = c.args.accounts.now in
-    record {
-      units = c.loop-k.invariant.long;
-      room = λ s. omega (arith, c.loop-k.invariant.earlier_is s, units_below_most top_elevens xs c.requires.sound s c.loop-k.k);
-      sound = sound_here top_elevens xs c.requires.sound c.args.earned.now c.loop-k.accounts c.loop-k.earlier c.loop-k.k c.loop-k.invariant;
-    }
+pub pay-requires-clause-need : goal.pay-requires-clause-need
+pay-requires-clause-need c = λ s. omega (arith, c.requires.need s, units_below_most top_elevens c.args.accounts.now c.requires.sound s (length c.args.accounts.now))
 
-pub loop-k-preserved : goal.loop-k-preserved
-loop-k-preserved c =
-    step c.args.accounts.now c.args.earned.now c.args.needs.now c.loop-k.accounts c.loop-k.earlier c.loop-k.k c.pay.new.slot c.count.new.units
-    c.loop-k.invariant (omega arith) (omega arith) c.requires.need c.pay.ensures c.count.ensures
+pub count-requires-clause-room : goal.count-requires-clause-room
+count-requires-clause-room c = λ s. omega (arith, c.loop-slot.invariant.earlier_is s, units_below_most top_elevens c.args.accounts.now c.requires.sound s c.loop-slot.slot-index)
+
+pub loop-slot-preserved : goal.loop-slot-preserved
+loop-slot-preserved c =
+    step c.args.accounts.now c.args.earned.now c.args.needs.now c.loop-slot.slot-items c.loop-slot.earlier c.loop-slot.slot-index c.pay.new.slot c.count.new.units
+    c.loop-slot.invariant (omega arith) c.requires.need c.pay.ensures c.count.ensures
 
 pub returns : goal.returns
-returns c = passed_all (pay_at c.args.accounts.now c.args.earned.now) c.args.accounts.now c.loop-k.accounts c.loop-k.k c.loop-k.invariant.passed (omega arith)
+returns c = passed_all (pay_at c.args.accounts.now c.args.earned.now) c.args.accounts.now c.loop-slot.slot-items c.loop-slot.slot-index c.loop-slot.invariant.passed (omega arith)

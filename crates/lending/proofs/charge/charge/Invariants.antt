@@ -1,5 +1,5 @@
 use Rattle.lending.proofs.Fees.{Paying}
 use Rattle.lending.proofs.charge.charge.Given as goal
 
-abbrev pub invariant-loop-k : goal.invariant-loop-k
-invariant-loop-k l = Paying l.initial.accounts l.earned l.accounts l.earlier l.k
+abbrev pub invariant-loop-slot : goal.invariant-loop-slot
+invariant-loop-slot l = Paying l.initial.slot-items l.earned l.slot-items l.earlier l.slot-index

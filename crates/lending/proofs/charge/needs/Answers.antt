@@ -1,24 +1,13 @@
 use Rattle.std.proofs.Common.{◌≡◌, length, ap, ◌∙◌, arith}
-use Rattle.sums.proofs.Sums.{below_more}
 use Rattle.lending.specs.Sound.{top_elevens}
-use Rattle.lending.specs.Lending.{at, units_in, units_below}
+use Rattle.lending.specs.Lending.{units_below}
 use Rattle.lending.proofs.Fees.{units_below_most}
 use Rattle.lending.proofs.charge.needs.Goals as goal
 
-pub count-requires : goal.count-requires
-count-requires c = record {
-  units = c.loop-account.invariant.0;
-  room = λ s. omega (arith, c.loop-account.invariant.1 s, units_below_most top_elevens c.args.accounts.now c.requires.sound s c.loop-account.account-index);
-  sound = c.requires.sound c.loop-account.account-index;
-}
-
-pub loop-account-preserved : goal.loop-account-preserved
-loop-account-preserved c = (
-  omega (arith, c.loop-account.invariant.0),
-  λ s. omega (arith, c.count.ensures s, c.loop-account.invariant.1 s, below_more c.loop-account.account-index (λ k. units_in s (at c.args.accounts.now k))),
-)
+pub count-requires-clause-room : goal.count-requires-clause-room
+count-requires-clause-room c = λ s. omega (arith, c.loop-account.invariant s, units_below_most top_elevens c.args.accounts.now c.requires s c.loop-account.account-index)
 
 pub returns : goal.returns
 returns c =
     let end : c.loop-account.account-index ≡ length c.args.accounts.now = omega arith in
-    λ s. c.loop-account.invariant.1 s ∙ ap (units_below c.args.accounts.now s) end
+    λ s. c.loop-account.invariant s ∙ ap (units_below c.args.accounts.now s) end

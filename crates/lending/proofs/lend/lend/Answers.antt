@@ -1,34 +1,18 @@
-use Rattle.std.proofs.Common.{◌≡◌, ◌≤◌, length, get_or, sym, ap, ◌∙◌, arith}
+use Rattle.std.proofs.Common.{◌≡◌, length, get_or, ap, ◌∙◌, arith}
 use Rattle.sums.specs.Below.{below}
-use Rattle.lending.specs.Sound.{offer_places, top_elevens}
+use Rattle.lending.specs.Sound.{top_elevens}
 use Rattle.lending.specs.Lending.{at}
 use Rattle.lending.specs.Steps.{earns_in}
-use Rattle.lending.proofs.Passes.{passed_all}
-use Rattle.lending.proofs.Earnings.{earn_at, earned_room, step}
+use Rattle.lending.proofs.Earnings.{earned_room}
 use Rattle.lending.proofs.lend.lend.Goals as goal
 
-pub earn-requires : goal.earn-requires
-earn-requires c =
-    let few : c.loop-k.k ≤ offer_places = omega arith in
-    record {
-      earned = c.loop-k.invariant.long;
-      room = λ s. omega (arith, c.loop-k.invariant.earned_is s, earned_room top_elevens c.args.offers.now c.args.given.now c.requires.sound c.requires.units s c.loop-k.k few);
-      units = c.requires.units c.loop-k.k;
-      sound = λ o e. c.requires.sound c.loop-k.k o (sym (c.loop-k.invariant.passed.rest c.loop-k.k (omega arith)) ∙ e);
-    }
+pub earn-requires-clause-room : goal.earn-requires-clause-room
+earn-requires-clause-room c = λ s. omega (arith, c.loop-place.invariant.earned_is s, earned_room top_elevens c.args.offers.now c.args.given.now c.requires.sound c.requires.units s c.loop-place.place (omega arith))
 
-pub loop-k-preserved : goal.loop-k-preserved
-loop-k-preserved c =
-    step c.args.offers.now c.args.given.now c.loop-k.offers c.loop-k.earned c.loop-k.k c.earn.new.slot c.earn.new.earned
-    c.loop-k.invariant (omega arith) (omega arith) c.earn.ensures.after c.earn.ensures.earned
+pub returns-clause-earned : goal.returns-clause-earned
+returns-clause-earned c =
+    let end : c.loop-place.place ≡ length c.args.offers.now = omega arith in
+    λ s. c.loop-place.invariant.earned_is s ∙ ap (λ n. below n (λ k. earns_in s (at c.args.offers.now k) (get_or c.args.given.now k 0))) end
 
-pub returns : goal.returns
-returns c =
-    let os = c.args.offers.now in
-    let end : c.loop-k.k ≡ length os = omega arith in
-    let few : c.loop-k.k ≤ offer_places = omega arith in
-    record {
-      earned = λ s. c.loop-k.invariant.earned_is s ∙ ap (λ n. below n (λ k. earns_in s (at os k) (get_or c.args.given.now k 0))) end;
-      most = λ s. omega (arith, c.loop-k.invariant.earned_is s, earned_room top_elevens os c.args.given.now c.requires.sound c.requires.units s c.loop-k.k few);
-      after = passed_all (earn_at c.args.given.now) os c.loop-k.offers c.loop-k.k c.loop-k.invariant.passed (omega arith);
-    }
+pub returns-clause-most : goal.returns-clause-most
+returns-clause-most c = λ s. omega (arith, c.loop-place.invariant.earned_is s, earned_room top_elevens c.args.offers.now c.args.given.now c.requires.sound c.requires.units s c.loop-place.place (omega arith))

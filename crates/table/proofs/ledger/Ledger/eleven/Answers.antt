@@ -15,8 +15,6 @@ eleven-answer-requires c =
     let t = l.table in
     let most : elevens t ≤ top_elevens = omega (arith, elevens_most t, l.sound.dated) in
     record {
-      accounts = l.sound.sized.0;
-      offers = l.sound.sized.1;
       loans = accounts_later (elevens t) top_elevens most t.accounts (λ k a e. (l.sound.loans k a e, l.sound.balances k a e));
       lenders = offers_later (elevens t) top_elevens most t.offers (λ k o e. (l.sound.terms k o e, l.sound.earnings k o e));
     }
