@@ -30,7 +30,7 @@ impl<'a> Reader<'a> {
             at: place,
             start: place,
         };
-        let length = ahead.take_u16()?;
+        let length: u16 = ahead.take()?;
         let bytes = ahead.take_part(length as usize)?;
         let record = read_record(bytes, place)?;
         self.at = ahead.at;

@@ -34,7 +34,7 @@ pub(crate) fn read_record<'a>(bytes: &'a [u8], place: usize) -> Result<Record<'a
     ensures { seen_body result (place + 2 + length bytes.now) ≡ read_body bytes.now place }
 {
     let mut c = Cursor::new(bytes, place);
-    let kind = c.take_u8()?;
+    let kind = c.take()?;
     let instruction = read_instruction(kind, &mut c)?;
     let memo = Memo {
         bytes: c.rest(),

@@ -4,7 +4,7 @@ use Rattle.dayfile.proofs.Bodies.{PastKind, bad_at, long_at, odd_at, whole_at}
 use Rattle.dayfile.proofs.record.read_record.Goals as goal
 use Rattle.dayfile.proofs.record.read_record.Goals.{In_ok-kind}
 
-past_kind : (c : In_ok-kind) → PastKind c.args.bytes.now c.args.place c.in_ok-kind.kind c.take_u8.new.self
+past_kind : (c : In_ok-kind) → PastKind c.args.bytes.now c.args.place c.in_ok-kind.kind c.take.new.self
 past_kind c =
     let t = c.in_ok-kind.ensures in
     let same = c.new-c.ensures.bytes in

@@ -11,7 +11,7 @@ meaning : (c : In_ok-bytes) (o : Outcome) → o ≡ read_body c.in_ok-bytes.byte
 meaning c o e =
     let t = c.in_ok-length.ensures in
     let u = c.in_ok-bytes.ensures in
-    there_at _ _ c.take_u16.new.self.bytes.now c.in_ok-length.length c.take_u16.new.self.at _ o t.2.0 t.0 t.2.2 (omega arith) t.1 u.1 u.0.0 e
+    there_at _ _ c.take.new.self.bytes.now c.in_ok-length.length c.take.new.self.at _ o t.2.0 t.0 t.2.2 (omega arith) t.1 u.1 u.0.0 e
 
 pub returns-in_err-record : goal.returns-in_err-record
 returns-in_err-record c =
