@@ -29,6 +29,7 @@ pub struct Record<'a> {
 }
 
 /// The record whose first byte, of its length, is at `place`, and whose later bytes are `bytes`.
+#[tactic(auto, using(std::proofs::lemmas::Bool::Decides::nat_tests))]
 pub(crate) fn read_record<'a>(bytes: &'a [u8], place: usize) -> Result<Record<'a>, RecordFault>
     requires { place + 2 + length bytes.now < 2 ^ 64 }
     ensures { seen_body result (place + 2 + length bytes.now) ≡ read_body bytes.now place }
@@ -52,10 +53,6 @@ pub(crate) fn read_record<'a>(bytes: &'a [u8], place: usize) -> Result<Record<'a
 fn plain(memo: &[u8]) -> bool
     ensures { result ≡ all_plain memo.now }
 {
-    for b in memo {
-        if *b < MEMO_LOW || *b > MEMO_HIGH {
-            return false;
-        }
-    }
-    true
+    memo.iter()
+        .all(|byte| (MEMO_LOW..=MEMO_HIGH).contains(byte))
 }
