@@ -22,6 +22,7 @@ pub trait Number: Copy {
     ghost stands: { (bs : List ℕ) (i : ℕ) → i + WIDTH ≤ length bs → read (part bs i WIDTH) 0 ≡ read bs i };
 }
 
+// An impl for each type, written out: std's `from_be_bytes` belongs to no trait.
 impl Number for u8 {
     ghost WIDTH = { 1 };
 

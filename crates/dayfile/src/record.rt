@@ -15,14 +15,14 @@ const MEMO_LOW: u8 = 33;
 const MEMO_HIGH: u8 = 126;
 
 /// The sender's mark: a part of the file, and the place where it begins in it.
-#[derive(Drop)]
+#[derive(Clone, Copy, Debug, PartialEq, Eq)]
 pub struct Memo<'a> {
     pub bytes: &'a [u8],
     pub place: usize,
 }
 
 /// An instruction with its memo.
-#[derive(Drop)]
+#[derive(Clone, Copy, Debug, PartialEq, Eq)]
 pub struct Record<'a> {
     pub instruction: Instruction<'a>,
     pub memo: Memo<'a>,

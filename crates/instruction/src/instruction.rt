@@ -6,7 +6,7 @@ ghost use Rattle.instruction.specs.Names.{name};
 use super::kind::Kind;
 
 /// What a record tells to do. `Open` borrows the 32 bytes of its eight prices, which `read_prices` reads.
-#[derive(Drop)]
+#[derive(Clone, Copy, Debug, PartialEq, Eq)]
 pub enum Instruction<'a> {
     Open {
         prices: &'a [u8],
