@@ -7,6 +7,7 @@ use std::fmt;
 pub struct Fields<'a>(pub &'a Instruction<'a>);
 
 impl fmt::Display for Fields<'_> {
+    // One table for all the instructions, an arm for each, so it is longer than a function that does steps.
     fn fmt<W: fmt::Write>(&self, f: &mut fmt::Formatter<W>) -> fmt::Result {
         match self.0 {
             Instruction::Open { prices } => print_prices(f, prices),
