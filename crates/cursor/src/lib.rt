@@ -2,6 +2,8 @@
 #![tactic(auto)]
 
 mod cursor;
+mod number;
 mod take;
 
 pub use cursor::{Cursor, Short};
+pub use number::Number;

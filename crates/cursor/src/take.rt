@@ -1,9 +1,10 @@
 // Each call takes the field at the cursor and goes past it, or answers `Short` and stays.
 ghost use Rattle.std.specs.Prelude.{◌≡◌, ◌+◌, length, drop};
-ghost use Rattle.cursor.specs.Bytes.{byte, be16, be32, be64, part};
+ghost use Rattle.cursor.specs.Bytes.{part};
 ghost use Rattle.cursor.specs.Took.{Took};
 
 use super::cursor::{Cursor, Short};
+use super::number::Number;
 
 impl<'a> Cursor<'a> {
     /// A cursor at the first of the bytes.
@@ -19,78 +20,21 @@ impl<'a> Cursor<'a> {
         }
     }
 
-    /// A number of one byte.
-    pub fn take_u8(&mut self) -> Result<u8, Short>
-        ensures { Took 1 (λ v. v ≡ byte self.old.bytes.now self.old.at) self.old result self.new }
+    /// A number, in as many bytes as its type has.
+    pub fn take<N: Number>(&mut self) -> Result<N, Short>
+        ensures { Took N.WIDTH (λ v. v ≡ N.read self.old.bytes.now self.old.at) self.old result self.new }
     {
-        let bytes = self.bytes;
-        let at = self.at;
-        if bytes.len() - at < 1 {
-            return Err(Short { place: self.start });
-        }
-        self.at = at + 1;
-        Ok(bytes[at])
-    }
-
-    /// A number of two bytes, the high one first.
-    pub fn take_u16(&mut self) -> Result<u16, Short>
-        ensures { Took 2 (λ v. v ≡ be16 self.old.bytes.now self.old.at) self.old result self.new }
-    {
-        let bytes = self.bytes;
-        let at = self.at;
-        if bytes.len() - at < 2 {
-            return Err(Short { place: self.start });
-        }
-        self.at = at + 2;
-        Ok(u16::from_be_bytes([bytes[at], bytes[at + 1]]))
-    }
-
-    /// A number of four bytes, the high one first.
-    pub fn take_u32(&mut self) -> Result<u32, Short>
-        ensures { Took 4 (λ v. v ≡ be32 self.old.bytes.now self.old.at) self.old result self.new }
-    {
-        let bytes = self.bytes;
-        let at = self.at;
-        if bytes.len() - at < 4 {
-            return Err(Short { place: self.start });
-        }
-        self.at = at + 4;
-        Ok(u32::from_be_bytes([bytes[at], bytes[at + 1], bytes[at + 2], bytes[at + 3]]))
-    }
-
-    /// A number of eight bytes, the high one first.
-    pub fn take_u64(&mut self) -> Result<u64, Short>
-        ensures { Took 8 (λ v. v ≡ be64 self.old.bytes.now self.old.at) self.old result self.new }
-    {
-        let bytes = self.bytes;
-        let at = self.at;
-        if bytes.len() - at < 8 {
-            return Err(Short { place: self.start });
-        }
-        self.at = at + 8;
-        Ok(u64::from_be_bytes([
-            bytes[at],
-            bytes[at + 1],
-            bytes[at + 2],
-            bytes[at + 3],
-            bytes[at + 4],
-            bytes[at + 5],
-            bytes[at + 6],
-            bytes[at + 7],
-        ]))
+        let bytes = self.take_part(N::WIDTH)?;
+        Ok(N::from_bytes(bytes))
     }
 
     /// The next `n` bytes, as a part of the lent ones.
     pub fn take_part(&mut self, n: usize) -> Result<&'a [u8], Short>
         ensures { Took n (λ v. (v.now ≡ part self.old.bytes.now self.old.at n) × (length v.now ≡ n)) self.old result self.new }
     {
-        let bytes = self.bytes;
-        let at = self.at;
-        if bytes.len() - at < n {
-            return Err(Short { place: self.start });
-        }
-        self.at = at + n;
-        Ok(&bytes[at..at + n])
+        let taken = self.rest().get(..n).ok_or(Short { place: self.start })?;
+        self.at += n;
+        Ok(taken)
     }
 
     /// All the bytes that are left, as a part of the lent ones.
@@ -98,8 +42,6 @@ impl<'a> Cursor<'a> {
         ensures value { result.now ≡ drop self.now.at self.now.bytes.now }
         ensures len { length result.now + self.now.at ≡ length self.now.bytes.now }
     {
-        let bytes = self.bytes;
-        let (_, rest) = bytes.split_at(self.at);
-        rest
+        &self.bytes[self.at..]
     }
 }

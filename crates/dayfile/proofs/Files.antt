@@ -1,5 +1,5 @@
--- A file's first byte, and one record more handed to a sink.
-use Rattle.std.proofs.Common.{◌≡◌, ℕ, ◌≤◌, List, [], ◌∷◌, length, Some, None, Ok, Err, Option, sym, refl, arith}
+-- A file that does not begin, and one record more handed to a sink.
+use Rattle.std.proofs.Common.{◌≡◌, ℕ, ◌≤◌, List, [], ◌∷◌, length, Some, None, Ok, Err, Option, sym}
 use Rattle.cursor.specs.Bytes.{byte}
 use Rattle.dayfile.specs.declared.fault.FileCause.{FileCause}
 use Rattle.dayfile.specs.declared.fault.FileCause.TheVariants as file
@@ -11,14 +11,6 @@ use Rattle.dayfile.specs.Faults.{tells}
 use Rattle.dayfile.specs.Outcome.{Reading, read_record}
 use Rattle.dayfile.specs.Seen.{seen, reading, Stands}
 use Rattle.dayfile.specs.File.{Ending, complete, stopped, Holds, at_end, at_fault, at_record, Means, is_too_long, has_no_version, has_version, Begins, Fed, none, more}
-
-no_version : (bs : List ℕ) → length bs ≡ 0 → byte bs 0 ≡ 1 → ⊥
-no_version [] h e = omega arith
-no_version (x ∷ xs) h e = omega arith
-
-pub not_empty : (bs : List ℕ) → byte bs 0 ≡ 1 → 1 ≤ length bs
-not_empty [] e = absurd (no_version [] refl e)
-not_empty (x ∷ xs) e = omega arith
 
 pub not_begun : (bs : List ℕ) (c : FileCause) → Begins (Err c) bs → Means bs [] (stopped (tells (whole_file c)))
 not_begun bs file.Version h = has_no_version h.0 h.1

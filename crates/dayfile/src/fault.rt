@@ -6,7 +6,7 @@ use cursor::Short;
 use instruction::Unread;
 
 /// The layer of a file that a fault lies in.
-#[derive(Clone, Copy, Debug, PartialEq)]
+#[derive(Clone, Copy, Debug, PartialEq, Eq)]
 pub enum Layer {
     File,
     Record,
@@ -14,35 +14,35 @@ pub enum Layer {
 }
 
 /// What a fault tells: its layer, its number, and the place of a byte in the file.
-#[derive(Clone, Copy, Debug, PartialEq)]
+#[derive(Clone, Copy, Debug, PartialEq, Eq)]
 pub struct Told {
     pub layer: Layer,
     pub number: u8,
     pub place: usize,
 }
 
-/// What is wrong with a file as a whole.
-#[derive(Clone, Copy)]
+/// What is wrong with a file as a whole, by its number.
+#[derive(Clone, Copy, Debug, PartialEq, Eq)]
 pub enum FileCause {
     /// It is empty, or its first byte is not the version.
-    Version,
+    Version = 20,
     /// It has more bytes than a file may have.
-    TooLong,
+    TooLong = 25,
 }
 
-/// What is wrong with a record.
-#[derive(Clone, Copy)]
+/// What is wrong with a record, by its number.
+#[derive(Clone, Copy, Debug, PartialEq, Eq)]
 pub enum RecordCause {
     /// Its length is 0, too small for its kind, or leaves a memo that is too long.
-    Length,
+    Length = 21,
     /// No kind has its number.
-    Kind,
+    Kind = 22,
     /// The file ends inside it.
-    Ends,
+    Ends = 23,
 }
 
 /// What is wrong inside a record whose bytes are all there, and the record's place.
-#[derive(Clone, Copy)]
+#[derive(Clone, Copy, Debug, PartialEq, Eq)]
 pub enum RecordFault {
     Length { place: usize },
     Kind { place: usize },
@@ -50,7 +50,7 @@ pub enum RecordFault {
 }
 
 /// What is wrong with a file; the place is the first byte of the record.
-#[derive(Clone, Copy)]
+#[derive(Clone, Copy, Debug, PartialEq, Eq)]
 pub enum Fault {
     File { cause: FileCause },
     Record { cause: RecordCause, place: usize },

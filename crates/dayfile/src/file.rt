@@ -15,6 +15,7 @@ const VERSION: u8 = 1;
 
 impl<'a> Reader<'a> {
     /// A reader at the first record of a file that is not too long and has the version.
+    #[tactic(auto, using(crate::proofs::Files::not_begun))]
     pub fn open(file: &'a [u8]) -> Result<Reader<'a>, Fault>
         ensures { Opened result file.now }
     {
@@ -29,7 +30,7 @@ fn begins(file: &[u8]) -> Result<(), FileCause>
     if file.len() > MOST {
         return Err(FileCause::TooLong);
     }
-    if file.len() == 0 || file[0] != VERSION {
+    if file.first() != Some(&VERSION) {
         return Err(FileCause::Version);
     }
     Ok(())
@@ -45,6 +46,7 @@ pub trait Sink {
 }
 
 /// Hands each record of the file to the sink, in order, up to the end of the file or its first fault.
+#[tactic(auto, using(crate::proofs::Meaning::one_meaning))]
 pub fn read_file<S: Sink>(file: &[u8], sink: &mut S) -> Result<(), Fault>
     ensures handed { Handed S.Sink.takes file.now sink.old result sink.new }
     ensures only { OneMeaning file.now }

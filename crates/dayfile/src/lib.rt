@@ -9,6 +9,6 @@ mod tell;
 
 pub use fault::{Fault, FileCause, Layer, RecordCause, RecordFault, Told};
 pub use file::{Sink, read_file};
-pub use instruction::{Instruction, read_prices};
+pub use instruction::{Instruction, Kind, read_prices};
 pub use reader::Reader;
 pub use record::{Memo, Record};

@@ -16,6 +16,7 @@ pub struct Reader<'a> {
 
 impl<'a> Reader<'a> {
     /// The record at the reader, which then stands past it; `None` at the end of the file. At a fault it stays.
+    #[tactic(auto, using(std::proofs::lemmas::Bool::Decides::nat_tests))]
     pub fn next_record(&mut self) -> Result<Option<Record<'a>>, Fault>
         ensures reads { seen result self.new.at ≡ read_record self.old.file.now self.old.at }
         ensures stands { Stands result self.old self.new }
@@ -30,8 +31,8 @@ impl<'a> Reader<'a> {
             at: place,
             start: place,
         };
-        let length = ahead.take_u16()?;
-        let bytes = ahead.take_part(length as usize)?;
+        let length: u16 = ahead.take()?;
+        let bytes = ahead.take_part(usize::from(length))?;
         let record = read_record(bytes, place)?;
         self.at = ahead.at;
         Ok(Some(record))

@@ -15,26 +15,27 @@ const MEMO_LOW: u8 = 33;
 const MEMO_HIGH: u8 = 126;
 
 /// The sender's mark: a part of the file, and the place where it begins in it.
-#[derive(Drop)]
+#[derive(Clone, Copy, Debug, PartialEq, Eq)]
 pub struct Memo<'a> {
     pub bytes: &'a [u8],
     pub place: usize,
 }
 
 /// An instruction with its memo.
-#[derive(Drop)]
+#[derive(Clone, Copy, Debug, PartialEq, Eq)]
 pub struct Record<'a> {
     pub instruction: Instruction<'a>,
     pub memo: Memo<'a>,
 }
 
 /// The record whose first byte, of its length, is at `place`, and whose later bytes are `bytes`.
+#[tactic(auto, using(std::proofs::lemmas::Bool::Decides::nat_tests))]
 pub(crate) fn read_record<'a>(bytes: &'a [u8], place: usize) -> Result<Record<'a>, RecordFault>
     requires { place + 2 + length bytes.now < 2 ^ 64 }
     ensures { seen_body result (place + 2 + length bytes.now) ≡ read_body bytes.now place }
 {
     let mut c = Cursor::new(bytes, place);
-    let kind = c.take_u8()?;
+    let kind = c.take()?;
     let instruction = read_instruction(kind, &mut c)?;
     let memo = Memo {
         bytes: c.rest(),
@@ -52,10 +53,6 @@ pub(crate) fn read_record<'a>(bytes: &'a [u8], place: usize) -> Result<Record<'a
 fn plain(memo: &[u8]) -> bool
     ensures { result ≡ all_plain memo.now }
 {
-    for b in memo {
-        if *b < MEMO_LOW || *b > MEMO_HIGH {
-            return false;
-        }
-    }
-    true
+    memo.iter()
+        .all(|byte| (MEMO_LOW..=MEMO_HIGH).contains(byte))
 }

@@ -1,9 +1,12 @@
 // What a fault tells, and in words what was expected.
-ghost use Rattle.std.specs.Prelude.{◌≡◌};
+ghost use Rattle.std.specs.Prelude.{◌≡◌, Some};
 ghost use Rattle.dayfile.specs.Faults.{tells, expects, file_expects, record_expects};
+ghost use Rattle.dayfile.specs.Shown.{layer_name, fault_text};
 
 use super::fault::{Fault, FileCause, Layer, RecordCause, Told};
 use super::file::MOST;
+use std::error::Error;
+use std::fmt;
 
 impl Fault {
     /// Layer, number and place.
@@ -11,42 +14,17 @@ impl Fault {
         ensures { result ≡ tells self.now }
     {
         match *self {
-            Fault::File {
-                cause: FileCause::Version,
-            } => Told {
+            Fault::File { cause } => Told {
                 layer: Layer::File,
-                number: 20,
-                place: 0,
+                number: cause as u8,
+                place: match cause {
+                    FileCause::Version => 0,
+                    FileCause::TooLong => MOST,
+                },
             },
-            Fault::File {
-                cause: FileCause::TooLong,
-            } => Told {
-                layer: Layer::File,
-                number: 25,
-                place: MOST,
-            },
-            Fault::Record {
-                cause: RecordCause::Length,
-                place,
-            } => Told {
+            Fault::Record { cause, place } => Told {
                 layer: Layer::Record,
-                number: 21,
-                place,
-            },
-            Fault::Record {
-                cause: RecordCause::Kind,
-                place,
-            } => Told {
-                layer: Layer::Record,
-                number: 22,
-                place,
-            },
-            Fault::Record {
-                cause: RecordCause::Ends,
-                place,
-            } => Told {
-                layer: Layer::Record,
-                number: 23,
+                number: cause as u8,
                 place,
             },
             Fault::Memo { place } => Told {
@@ -62,29 +40,61 @@ impl Fault {
         ensures { result.now ≡ expects self.now }
     {
         match self {
-            Fault::File { cause } => expected_of_file(*cause),
-            Fault::Record { cause, .. } => expected_of_record(*cause),
+            Fault::File { cause } => cause.expected(),
+            Fault::Record { cause, .. } => cause.expected(),
             Fault::Memo { .. } => "expected memo bytes from 33 to 126",
         }
     }
 }
 
-fn expected_of_file(cause: FileCause) -> &'static str
-    ensures { result.now ≡ file_expects cause }
-{
-    match cause {
-        FileCause::Version => "expected a first byte of 1, the version",
-        FileCause::TooLong => "expected at most 65536 bytes",
+impl fmt::Display for Layer {
+    ghost output = { λ layer. Some (layer_name layer) };
+
+    fn fmt<W: fmt::Write>(&self, f: &mut fmt::Formatter<W>) -> fmt::Result {
+        f.write_str(match self {
+            Layer::File => "file",
+            Layer::Record => "record",
+            Layer::Memo => "memo",
+        })
     }
 }
 
-fn expected_of_record(cause: RecordCause) -> &'static str
-    ensures { result.now ≡ record_expects cause }
-{
-    match cause {
-        RecordCause::Length =>
-            "expected a length that holds a kind, its fields and a memo of 0 to 64 bytes",
-        RecordCause::Kind => "expected a kind from 1 to 16",
-        RecordCause::Ends => "expected the rest of the record before the end of the file",
+impl fmt::Display for Fault {
+    ghost output = { λ fault. Some (fault_text fault) };
+
+    fn fmt<W: fmt::Write>(&self, f: &mut fmt::Formatter<W>) -> fmt::Result {
+        let Told {
+            layer,
+            number,
+            place,
+        } = self.told();
+        let expected = self.expected();
+        write!(f, "{layer} {number} at {place} {expected}")
+    }
+}
+
+impl Error for Fault {}
+
+impl FileCause {
+    fn expected(self) -> &'static str
+        ensures { result.now ≡ file_expects self }
+    {
+        match self {
+            FileCause::Version => "expected a first byte of 1, the version",
+            FileCause::TooLong => "expected at most 65536 bytes",
+        }
+    }
+}
+
+impl RecordCause {
+    fn expected(self) -> &'static str
+        ensures { result.now ≡ record_expects self }
+    {
+        match self {
+            RecordCause::Length =>
+                "expected a length that holds a kind, its fields and a memo of 0 to 64 bytes",
+            RecordCause::Kind => "expected a kind from 1 to 16",
+            RecordCause::Ends => "expected the rest of the record before the end of the file",
+        }
     }
 }

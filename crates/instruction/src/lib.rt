@@ -3,12 +3,13 @@
 
 mod fields;
 mod instruction;
-mod name;
+mod kind;
 mod prices;
 mod read;
 mod unread;
 
 pub use instruction::Instruction;
+pub use kind::{Kind, UnknownKind};
 pub use prices::read_prices;
 pub use read::read_instruction;
 pub use unread::Unread;

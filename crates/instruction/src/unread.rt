@@ -4,7 +4,7 @@ ghost use Rattle.instruction.specs.Unread.{of_short};
 use cursor::Short;
 
 /// Why a record's fields cannot be read, and the record's place.
-#[derive(Clone, Copy)]
+#[derive(Clone, Copy, Debug, PartialEq, Eq)]
 pub enum Unread {
     /// No kind has this number.
     Kind { place: usize },

@@ -22,17 +22,12 @@ fn read_input(rt: &HostRuntime) -> io::Result<Vec<u8>> {
 fn run(rt: &HostRuntime) -> anyhow::Result<()> {
     let file = read_input(rt)?;
     let mut printer = Printer::new(rt)?;
-    match read_file(file.as_slice(), &mut printer) {
-        Ok(()) => {
-            printer.finish()?;
-            Ok(())
-        }
-        Err(fault) => {
-            printer.print_fault(&fault);
-            printer.finish()?;
-            Err(anyhow!("the file is faulty"))
-        }
+    let read = read_file(file.as_slice(), &mut printer);
+    if let Err(fault) = &read {
+        printer.print_fault(fault);
     }
+    printer.finish()?;
+    read.map_err(|_| anyhow!("the file is faulty"))
 }
 
 // A faulty file, or a failure to read or print, ends the program with status 1.

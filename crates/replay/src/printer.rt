@@ -2,8 +2,8 @@
 ghost use Rattle.std.specs.Prelude.{◌≡◌, ◌+◌, ◌-◌, ◌^◌, ◌<◌, IfErr};
 ghost use Rattle.std.specs.IoError.{error_kind};
 
-use super::fields::print_fields;
-use dayfile::{Fault, Layer, Record, Sink};
+use super::fields::Fields;
+use dayfile::{Fault, Record, Sink};
 use std::io;
 use std::io::{BufWriter, ErrorKind, Stdout, Write};
 
@@ -29,7 +29,7 @@ impl Printer {
 
     pub fn print_fault(&mut self, fault: &Fault) {
         if self.printed.is_ok() {
-            self.printed = print_fault(&mut self.out, fault);
+            self.printed = writeln!(self.out, "fault {fault}");
         }
     }
 
@@ -54,33 +54,20 @@ impl Sink for Printer {
     fn take(&mut self, record: Record<'_>) {
         self.records = self.records.saturating_add(1);
         if self.printed.is_ok() {
-            self.printed = print_record(&mut self.out, self.records, record);
+            self.printed = print_record(&mut self.out, self.records, &record);
         }
     }
 }
 
-fn print_record(out: &mut BufWriter<Stdout>, number: u64, record: Record<'_>) -> io::Result<()> {
-    let Record { instruction, memo } = record;
-    let name = instruction.name();
-    write!(out, "{number} {name} ")?;
-    if memo.bytes.is_empty() {
+fn print_record(out: &mut BufWriter<Stdout>, number: u64, record: &Record<'_>) -> io::Result<()> {
+    let kind = record.instruction.kind();
+    let fields = Fields(&record.instruction);
+    write!(out, "{number} {kind} ")?;
+    // A memo is a part of the file, and not text, so it is written as it stands there.
+    if record.memo.bytes.is_empty() {
         out.write_all(b"-")?;
     } else {
-        out.write_all(memo.bytes)?;
+        out.write_all(record.memo.bytes)?;
     }
-    print_fields(out, instruction)?;
-    out.write_all(b"\n")
-}
-
-fn print_fault(out: &mut BufWriter<Stdout>, fault: &Fault) -> io::Result<()> {
-    let told = fault.told();
-    let layer = match told.layer {
-        Layer::File => "file",
-        Layer::Record => "record",
-        Layer::Memo => "memo",
-    };
-    let number = told.number;
-    let place = told.place;
-    let expected = fault.expected();
-    writeln!(out, "fault {layer} {number} at {place} {expected}")
+    writeln!(out, "{fields}")
 }

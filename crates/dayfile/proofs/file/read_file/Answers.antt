@@ -1,30 +1,19 @@
 use Rattle.std.proofs.Common.{[], length, ap, ◌∙◌, arith}
 use Rattle.std.proofs.lemmas.Result.{err_from_is_err_and}
 use Rattle.dayfile.specs.File.{none}
-use Rattle.dayfile.proofs.Files.{not_empty, begun, past_record, on_end, on_fault, on_record}
-use Rattle.dayfile.proofs.Meaning.{one_meaning}
+use Rattle.dayfile.proofs.Files.{begun, past_record, on_end, on_fault, on_record}
 use Rattle.dayfile.proofs.file.read_file.Goals as goal
 
-pub returns-in_err-reader : goal.returns-in_err-reader
-returns-in_err-reader g c =
+pub returns-in_err-reader-clause-handed : goal.returns-in_err-reader-clause-handed
+returns-in_err-reader-clause-handed g c =
     let q = err_from_is_err_and c.from_residual.result c.from_residual.ensures.1 in
-    record { handed = rw (q.1, q.2) ([], c.in_err-reader.ensures, none _); only = one_meaning c.args.file.now }
+    rw (q.1, q.2) ([], c.in_err-reader.ensures, none _)
 
-pub loop-record-init : goal.loop-record-init
-loop-record-init g c =
-    let o = c.in_ok-reader.ensures in
-    (o.2, omega (arith, o.3, not_empty c.args.file.now o.1), λ e t h. rw o.3 at h)
-
-pub returns-in_err-record : goal.returns-in_err-record
-returns-in_err-record g c =
+pub returns-in_err-record-clause-handed : goal.returns-in_err-record-clause-handed
+returns-in_err-record-clause-handed g c =
     let q = err_from_is_err_and c.from_residual-in_err-record.result c.from_residual-in_err-record.ensures.1 in
     let o = c.in_ok-reader.ensures in
-    record { handed = rw (q.1, q.2) (begun g.S.Sink.takes c.args.file.now c.args.sink.now c.loop-record.sink _ o.0 o.1 (c.loop-record.invariant.2 _ _ (on_fault g.S.Sink.takes c.args.file.now c.loop-record.reader.file.now c.loop-record.reader.at c.next_record.new.self.at c.loop-record.sink c.loop-record.invariant.0 c.in_err-record.field-0.0 c.in_err-record.ensures.reads))); only = one_meaning c.args.file.now }
-
-pub loop-record-smaller : goal.loop-record-smaller
-loop-record-smaller g c =
-    let h = past_record _ c.in-Some.record c.in-Some.is c.loop-record.reader c.next_record.new.self c.in_ok-record.ensures.stands in
-    omega (arith, h.1, h.2, ap length c.loop-record.invariant.0)
+    rw (q.1, q.2) (begun g.S.Sink.takes c.args.file.now c.args.sink.now c.loop-record.sink _ o.0 o.1 (c.loop-record.invariant.2 _ _ (on_fault g.S.Sink.takes c.args.file.now c.loop-record.reader.file.now c.loop-record.reader.at c.next_record.new.self.at c.loop-record.sink c.loop-record.invariant.0 c.in_err-record.field-0.0 c.in_err-record.ensures.reads)))
 
 pub loop-record-preserved : goal.loop-record-preserved
 loop-record-preserved g c =
@@ -34,7 +23,7 @@ loop-record-preserved g c =
       λ e t more. c.loop-record.invariant.2 e t (on_record g.S.Sink.takes c.args.file.now c.loop-record.reader.file.now c.loop-record.reader.at c.next_record.new.self.at c.loop-record.sink c.loop-record.invariant.0 c.in_ok-record.field-0 c.in-Some.record c.in-Some.is c.in_ok-record.ensures.reads c.take.new.self c.take.ensures e t more),
     )
 
-pub returns : goal.returns
-returns g c =
+pub returns-clause-handed : goal.returns-clause-handed
+returns-clause-handed g c =
     let o = c.in_ok-reader.ensures in
-    record { handed = begun g.S.Sink.takes c.args.file.now c.args.sink.now c.loop-record.sink _ o.0 o.1 (c.loop-record.invariant.2 _ _ (on_end g.S.Sink.takes c.args.file.now c.loop-record.reader.file.now c.loop-record.reader.at c.next_record.new.self.at c.loop-record.sink c.loop-record.invariant.0 c.in_ok-record.field-0 c.in_default.is c.in_ok-record.ensures.reads)); only = one_meaning c.args.file.now }
+    begun g.S.Sink.takes c.args.file.now c.args.sink.now c.loop-record.sink _ o.0 o.1 (c.loop-record.invariant.2 _ _ (on_end g.S.Sink.takes c.args.file.now c.loop-record.reader.file.now c.loop-record.reader.at c.next_record.new.self.at c.loop-record.sink c.loop-record.invariant.0 c.in_ok-record.field-0 c.in_default.is c.in_ok-record.ensures.reads))

@@ -1,19 +1,18 @@
-use Rattle.std.proofs.Common.{sym, ◌∙◌, arith}
-use Rattle.std.proofs.lemmas.List.{at_drop_all}
-use Rattle.dayfile.specs.Outcome.{all_plain}
-use Rattle.dayfile.proofs.Plain.{one_more, too_low, too_high}
+use Rattle.std.proofs.Common.{◌≡◌, ℕ, Bool, true, false, cond, ◌&&◌, List, [], ◌∷◌, refl, ap, ◌∙◌, rules, tests}
+use Rattle.std.specs.List.{list_all}
+use Rattle.std.proofs.lemmas.Iterator.{YieldsList-from_slice}
+use Rattle.std.proofs.lemmas.Iterator.Search.{all_from_yields_List}
+use Rattle.dayfile.specs.Outcome.{plain, all_plain}
 use Rattle.dayfile.proofs.record.plain.Goals as goal
-use Rattle.dayfile.proofs.record.plain.Goals.{then-b-lt-MEMO_LOW-via-then-b-lt-MEMO_LOW, then-b-lt-MEMO_LOW-via-else-b-lt-MEMO_LOW+then-b-gt-MEMO_HIGH}
 
-pub returns-then-b-lt-MEMO_LOW : goal.returns-then-b-lt-MEMO_LOW
-returns-then-b-lt-MEMO_LOW c =
-    elim c.then-b-lt-MEMO_LOW.branch [
-      | then-b-lt-MEMO_LOW-via-then-b-lt-MEMO_LOW w ↦ sym (c.loop-b.invariant ∙ too_low c.args.memo.now c.loop-b.b-index (omega arith) (omega arith))
-      | then-b-lt-MEMO_LOW-via-else-b-lt-MEMO_LOW+then-b-gt-MEMO_HIGH w ↦ sym (c.loop-b.invariant ∙ too_high c.args.memo.now c.loop-b.b-index (omega arith) (omega arith) (omega arith))
-    ]
+both : (a b : Bool) → (a && b) ≡ cond a b false
+both true b = refl
+both false b = refl
 
-pub loop-b-preserved : goal.loop-b-preserved
-loop-b-preserved c = c.loop-b.invariant ∙ one_more c.args.memo.now c.loop-b.b-index (omega arith) (omega arith) (omega arith)
+all_pass : (bs : List ℕ) → list_all plain bs ≡ all_plain bs
+all_pass [] = refl
+all_pass (b ∷ bs) = both (plain b) (list_all plain bs) ∙ ap (λ rest. cond (plain b) rest false) (all_pass bs)
 
 pub returns : goal.returns
-returns c = sym (c.loop-b.invariant ∙ at_drop_all all_plain c.args.memo.now c.loop-b.b-index (omega arith))
+returns c =
+    all_from_yields_List plain _ _ _ c.all.ensures.ran (YieldsList-from_slice c.args.memo.now cc) (λ x b q k. search (rules, tests)) ∙ all_pass c.args.memo.now

@@ -1,10 +1,10 @@
 use Rattle.std.proofs.Common.{length, ap, ◌∙◌, arith}
 use Rattle.std.proofs.lemmas.Result.{err_from_is_err_and}
-use Rattle.dayfile.proofs.Bodies.{PastKind, bad_at, long_at, odd_at, whole_at}
+use Rattle.dayfile.proofs.Bodies.{PastKind, bad_at, whole_at}
 use Rattle.dayfile.proofs.record.read_record.Goals as goal
 use Rattle.dayfile.proofs.record.read_record.Goals.{In_ok-kind}
 
-past_kind : (c : In_ok-kind) → PastKind c.args.bytes.now c.args.place c.in_ok-kind.kind c.take_u8.new.self
+past_kind : (c : In_ok-kind) → PastKind c.args.bytes.now c.args.place c.in_ok-kind.kind c.take.new.self
 past_kind c =
     let t = c.in_ok-kind.ensures in
     let same = c.new-c.ensures.bytes in
@@ -21,16 +21,6 @@ returns-in_err-instruction c =
     let k = past_kind (goal.at.returns-in_err-instruction c).In_ok-kind in
     let q = err_from_is_err_and c.from_residual-in_err-instruction.result c.from_residual-in_err-instruction.ensures.1 in
     rw (q.1, q.2) (bad_at _ _ _ _ k c.in_err-instruction.field-0.0 _ c.in_err-instruction.ensures)
-
-pub returns-then-memo-gt-MEMO_MOST : goal.returns-then-memo-gt-MEMO_MOST
-returns-then-memo-gt-MEMO_MOST c =
-    let k = past_kind (goal.at.returns-then-memo-gt-MEMO_MOST c).In_ok-kind in
-    long_at _ _ _ _ k c.in_ok-instruction.instruction c.read_instruction.new.c c.in_ok-instruction.ensures _ c.rest.ensures.value c.if-memo-gt-MEMO_MOST.true
-
-pub returns-then-not-plain : goal.returns-then-not-plain
-returns-then-not-plain c =
-    let k = past_kind (goal.at.returns-then-not-plain c).In_ok-kind in
-    odd_at _ _ _ _ k c.in_ok-instruction.instruction c.read_instruction.new.c c.in_ok-instruction.ensures _ c.rest.ensures.value c.if-memo-gt-MEMO_MOST.false c.if-not-plain.ensures
 
 pub returns : goal.returns
 returns c =
