@@ -17,6 +17,8 @@ impl Model for Places {
     ghost inverse = { λ n. record { word = n } };
 }
 
+// The bound on a place stands at three methods: a place is a number from outside, which every call has tested by then, and as
+// a type of its own it would be made from that number at each call.
 impl Places {
     /// No place.
     pub fn none() -> Places

@@ -1,5 +1,5 @@
 /// What an account owes and asks for.
-#[derive(Clone, Copy)]
+#[derive(Clone, Copy, Debug, PartialEq, Eq)]
 pub struct Loan {
     pub owed: u16,
     pub applied: u16,
@@ -7,7 +7,7 @@ pub struct Loan {
 }
 
 /// What it has, and what it has to have, in cents.
-#[derive(Clone, Copy)]
+#[derive(Clone, Copy, Debug, PartialEq, Eq)]
 pub struct Money {
     pub balance: i64,
     /// The balance and the covers of the account's pledges.
@@ -19,7 +19,7 @@ pub struct Money {
 }
 
 /// What the book tells of an account.
-#[derive(Clone, Copy)]
+#[derive(Clone, Copy, Debug, PartialEq, Eq)]
 pub struct Statement {
     pub loan: Loan,
     pub money: Money,

@@ -7,6 +7,7 @@ pub struct Short {
 }
 
 /// Lent bytes and the place `at` of the next field in them. `start` is the place that a fault tells.
+// A place and not the rest of the bytes: a memo tells where in the file it begins.
 #[derive(Drop)]
 pub struct Cursor<'a> {
     pub bytes: &'a [u8],

@@ -42,6 +42,7 @@ pub enum RecordCause {
 }
 
 /// What is wrong inside a record whose bytes are all there, and the record's place.
+// The place stands in each case, as it does in the faults of the layers around it: taken out, each `?` would have to put it back.
 #[derive(Clone, Copy, Debug, PartialEq, Eq)]
 pub enum RecordFault {
     Length { place: usize },

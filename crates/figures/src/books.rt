@@ -5,7 +5,7 @@ ghost use Rattle.figures.specs.Books.{BookFiguresHold, worked};
 use lending::{floor, target};
 
 /// What ten applied units have to be covered with at a price of 5,000, in cents.
-#[derive(Clone, Copy)]
+#[derive(Clone, Copy, Debug, PartialEq, Eq)]
 pub struct BookFigures {
     pub floor: u64,
     pub target: u64,

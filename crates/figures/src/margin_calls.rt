@@ -5,7 +5,7 @@ ghost use Rattle.figures.specs.Notices.{NoticeFiguresHold, worked};
 use lending::{floor, target};
 
 /// What ten owed units have to be covered with at a price of 10,000, in cents.
-#[derive(Clone, Copy)]
+#[derive(Clone, Copy, Debug, PartialEq, Eq)]
 pub struct NoticeFigures {
     pub floor: u64,
     pub target: u64,

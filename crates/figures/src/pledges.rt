@@ -8,7 +8,7 @@ use pledge::{BlockPrice, Pledge};
 
 /// What a guarantee of 50 thousands with expiry 9 comes to, and two blocks of bonds at a block price of 9,500,000; in
 /// cents.
-#[derive(Clone, Copy)]
+#[derive(Clone, Copy, Debug, PartialEq, Eq)]
 pub struct PledgeFigures {
     /// The guarantee's cover on the last day before its expiry.
     pub cover_on_day_8: u64,

@@ -1,5 +1,5 @@
 /// At what a buy in was carried out: plain numbers, whatever they are.
-#[derive(Clone, Copy)]
+#[derive(Clone, Copy, Debug, PartialEq, Eq)]
 pub struct Execution {
     /// In cents for each share.
     pub share_price: u32,

@@ -1,5 +1,5 @@
 /// What a book reads of a pledge in a place: the account that it backs, its expiry, and what it covers on a day.
-#[derive(Clone, Copy)]
+#[derive(Clone, Copy, Debug, PartialEq, Eq)]
 pub struct Lodging {
     /// The place of the account.
     pub account: u8,

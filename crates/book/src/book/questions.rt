@@ -80,6 +80,7 @@ impl Book {
 }
 
 /// What the account's pledges on both shelves cover on a day.
+// The shelves stay two slices: calls borrow them shared or to be changed, and a struct for either would be made anew at each.
 pub(super) fn pledged_on<P: Pledge, Q: Pledge>(
     first: &[Option<Held<P>>],
     second: &[Option<Held<Q>>],
