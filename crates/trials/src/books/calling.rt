@@ -8,7 +8,7 @@ use super::call::Call::{
 use super::call::{Answer, Call};
 use super::limits::{PRICES, opened};
 use super::pair::Pair;
-use super::tried::spent;
+use super::tried::{spent, told};
 use std::alloc::{AllocError, Global};
 use std::process::Abort;
 use std::test::Fail;
@@ -211,7 +211,7 @@ fn a_slip_of_another_book(rt: HostRuntime) -> Result<(), Fail> {
     let mut giver = with_a_slip_out(&rt, rt.alloc())?;
     let mut blank = Pair::new(rt.alloc())?;
     let kept = giver.slips.take(0);
-    assert_eq!(rt; spent(&mut blank.book, kept), Refused(9));
+    assert_eq!(rt; told(spent(&mut blank.book, kept)), Refused(9));
     blank.look_at_all(&rt, &"blank");
     giver.look_at_all(&rt, &"giver");
     giver.expect(
