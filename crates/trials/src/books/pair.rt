@@ -18,6 +18,8 @@ pub struct Pair {
     pub slips: Slips,
 }
 
+// `rt` and `what` stay two parameters: each step adds words of its own to `what`, so a struct of both would be made anew at
+// each.
 impl Pair {
     /// A blank book, and empty shelves.
     pub(crate) fn new(heap: Global) -> Result<Pair, AllocError> {

@@ -141,12 +141,12 @@ fn mostly_few(dice: &mut Dice) -> bool {
 fn some_pledging(dice: &mut Dice, account: u8) -> Call {
     let place = some_shelf_place(dice);
     let expiry = some_expiry(dice);
-    if dice.one_in(2) {
-        let few = mostly_few(dice);
+    let is_guarantee = dice.one_in(2);
+    let few = mostly_few(dice);
+    if is_guarantee {
         let thousands = some_thousands(dice, few).clamp(1, 1_000_000);
         Call::Guarantee(account, place, thousands, expiry)
     } else {
-        let few = mostly_few(dice);
         let blocks = some_blocks(dice, few).clamp(1, 10_000);
         Call::Bonds(account, place, blocks, expiry)
     }
@@ -314,11 +314,11 @@ impl Run {
         let place = dice.pick(128);
         let account = some_account(dice, self.few);
         let expiry = expiry(dice);
-        if dice.one_in(2) {
-            let few = few(dice);
+        let is_guarantee = dice.one_in(2);
+        let few = few(dice);
+        if is_guarantee {
             shelves.put_guarantee(place, account, some_thousands(dice, few), expiry);
         } else {
-            let few = few(dice);
             shelves.put_bond(place, account, some_blocks(dice, few), expiry);
         }
     }
