@@ -280,8 +280,8 @@ impl Second {
     /// The amounts of the account's pledges that expire on a later day.
     fn alive(&self, shelf: &[Option<Lodged>], account: u8) -> i128 {
         let mut amounts: i128 = 0;
-        // No chain: a run looks at a place some hundred million times, and as a chain that takes twice the minute that a test
-        // has where every step is checked.
+        // No chain: the trials by the hour look at a place some hundred million times, and with a chain they take more than twice
+        // as long where every step is checked, which is past the minute that a test has.
         for place in shelf {
             if let Some(lodged) = place
                 && lodged.account == account
