@@ -10,6 +10,7 @@ mod order;
 mod pair;
 mod plain;
 mod pledges;
+mod run;
 mod second;
 mod shelf_order;
 mod shelves;

@@ -29,26 +29,35 @@ impl Dice {
     }
 
     /// A number from `low` to `high`, often near one of them, and now and then just outside.
-    pub(crate) fn near(&mut self, low: u64, high: u64) -> u64 {
+    pub(crate) fn near<N: TryFrom<u64> + Default>(&mut self, low: u64, high: u64) -> N
+    where
+        N::Error: Drop,
+    {
         let wide = high.saturating_sub(low).saturating_add(1);
-        match self.below(32) {
+        fitting(match self.below(32) {
             0 => low.saturating_sub(1),
             1 => high.saturating_add(1),
-            2 | 3 | 4 => low,
-            5 | 6 | 7 => high,
+            2..=4 => low,
+            5..=7 => high,
             8 | 9 => low.saturating_add(1),
             10 | 11 => high.saturating_sub(1),
             _ => low.saturating_add(self.below(wide)),
-        }
+        })
     }
 
-    /// The same for a place of a list.
-    pub(crate) fn index_below(&mut self, bound: usize) -> usize {
-        self.below(bound as u64) as usize
+    /// A number below the bound, of any type that has those below it.
+    pub(crate) fn pick<N: TryFrom<u64> + Default>(&mut self, bound: u64) -> N
+    where
+        N::Error: Drop,
+    {
+        fitting(self.below(bound))
     }
+}
 
-    /// A byte below the bound, which is at most 256.
-    pub(crate) fn byte_below(&mut self, bound: u64) -> u8 {
-        (self.below(bound) & 0xff) as u8
-    }
+/// The number in another type. Each is asked for where it fits, so none becomes a zero.
+fn fitting<N: TryFrom<u64> + Default>(number: u64) -> N
+where
+    N::Error: Drop,
+{
+    N::try_from(number).unwrap_or_default()
 }

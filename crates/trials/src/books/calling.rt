@@ -6,9 +6,9 @@ use super::call::Call::{
     WaitAstray, Withdraw,
 };
 use super::call::{Answer, Call};
-use super::limits::{PRICES, opened};
+use super::limits::{PRICES, opened, opened_with};
 use super::pair::Pair;
-use super::tried::spent;
+use super::tried::{spent, told};
 use std::alloc::{AllocError, Global};
 use std::process::Abort;
 use std::test::Fail;
@@ -116,8 +116,7 @@ const MORNING_ONLY: [(Call, Answer); 8] = [
 
 #[test]
 fn around_floor_and_target(rt: HostRuntime) -> Result<(), Fail> {
-    let mut pair = opened(&rt, rt.alloc())?;
-    pair.expect(&rt, &"floor", &AROUND_THE_FLOOR);
+    let mut pair = opened_with(&rt, &"floor", &AROUND_THE_FLOOR, rt.alloc())?;
     assert_eq!(rt; pair.book.notice_word(), FOUR_NOTICES);
     pair.expect(&rt, &"slips", &SLIPS);
     assert_eq!(rt; pair.book.notice_word(), FOUR_NOTICES, "held by slips");
@@ -128,18 +127,14 @@ fn around_floor_and_target(rt: HostRuntime) -> Result<(), Fail> {
 
 #[test]
 fn hours_of_the_calling_hour(rt: HostRuntime) -> Result<(), Fail> {
-    let mut pair = opened(&rt, rt.alloc())?;
-    pair.expect(
-        &rt,
-        &"start",
-        &[
-            (Enrol(0, 1, 4), Done),
-            (Apply(0, 1), Number(1)),
-            (Offer(0, 4, 1, 0, 0), Done),
-            (Examine(0), Refused(3)),
-            (Ten, Number(1)),
-        ],
-    );
+    let start = [
+        (Enrol(0, 1, 4), Done),
+        (Apply(0, 1), Number(1)),
+        (Offer(0, 4, 1, 0, 0), Done),
+        (Examine(0), Refused(3)),
+        (Ten, Number(1)),
+    ];
+    let mut pair = opened_with(&rt, &"start", &start, rt.alloc())?;
     pair.expect(&rt, &"morning only", &MORNING_ONLY);
     pair.expect_one(&rt, Examine(0), Short(5_999_999, 0));
     Ok(())
@@ -191,18 +186,13 @@ fn all_notices(rt: HostRuntime) -> Result<(), Fail> {
 
 /// A book with account 0 short by 6,000,000 cents, and a slip out for it.
 fn with_a_slip_out(rt: &impl Abort, heap: Global) -> Result<Pair, AllocError> {
-    let mut pair = opened(rt, heap)?;
-    pair.expect(
-        rt,
-        &"a slip out",
-        &[
-            (Enrol(0, 1, 4), Done),
-            (Apply(0, 1), Number(1)),
-            (Ten, Number(1)),
-            (Examine(0), Short(6_000_000, 0)),
-        ],
-    );
-    Ok(pair)
+    let calls = [
+        (Enrol(0, 1, 4), Done),
+        (Apply(0, 1), Number(1)),
+        (Ten, Number(1)),
+        (Examine(0), Short(6_000_000, 0)),
+    ];
+    opened_with(rt, &"a slip out", &calls, heap)
 }
 
 /// A slip that one book gave is spent on a blank one, which knows nothing of it: the first book's account stays under a slip.
@@ -211,7 +201,7 @@ fn a_slip_of_another_book(rt: HostRuntime) -> Result<(), Fail> {
     let mut giver = with_a_slip_out(&rt, rt.alloc())?;
     let mut blank = Pair::new(rt.alloc())?;
     let kept = giver.slips.take(0);
-    assert_eq!(rt; spent(&mut blank.book, kept), Refused(9));
+    assert_eq!(rt; told(spent(&mut blank.book, kept)), Refused(9));
     blank.look_at_all(&rt, &"blank");
     giver.look_at_all(&rt, &"giver");
     giver.expect(

@@ -1,43 +1,38 @@
 // Either kind may go onto either shelf: here bonds onto the first and guarantees onto the second, at the place 0 and for
 // account 3.
 use super::call::Answer;
-use super::call::Answer::{Done, NotMade, Number, Refused};
+use super::call::Answer::{Done, Number, Refused};
 use super::call::Call::Enrol;
 use super::limits::opened;
 use super::shelves::Shelves;
-use super::tried::cents;
+use super::tried::{number, pledged, told};
 use book::{Book, Pledged};
 use kinds::{Bond, Guarantee};
 use std::test::Fail;
 
+fn pledge(book: &Book, shelves: &mut Shelves, pledge: Option<Pledged<Bond, Guarantee>>) -> Answer {
+    let first = &mut shelves.bonds;
+    told(pledged(book, first, &mut shelves.guarantees, 3, 0, pledge))
+}
+
 fn pledge_bonds(book: &Book, shelves: &mut Shelves, blocks: u16) -> Answer {
-    match Bond::new(blocks, 9) {
-        Some(pledge) => cents(book.pledge(
-            &mut shelves.bonds,
-            &mut shelves.guarantees,
-            3,
-            0,
-            Pledged::First(pledge),
-        )),
-        None => NotMade,
-    }
+    pledge(book, shelves, Bond::new(blocks, 9).map(Pledged::First))
 }
 
 fn pledge_guarantee(book: &Book, shelves: &mut Shelves, thousands: u32) -> Answer {
-    match Guarantee::new(thousands, 9) {
-        Some(pledge) => cents(book.pledge(
-            &mut shelves.bonds,
-            &mut shelves.guarantees,
-            3,
-            0,
-            Pledged::Second(pledge),
-        )),
-        None => NotMade,
-    }
+    pledge(
+        book,
+        shelves,
+        Guarantee::new(thousands, 9).map(Pledged::Second),
+    )
 }
 
 fn release(book: &Book, shelves: &mut Shelves, shelf: u8) -> Answer {
-    cents(book.release(&mut shelves.bonds, &mut shelves.guarantees, shelf, 0))
+    let first = &mut shelves.bonds;
+    told(
+        book.release(first, &mut shelves.guarantees, shelf, 0)
+            .map(number),
+    )
 }
 
 #[test]

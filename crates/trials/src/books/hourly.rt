@@ -1,15 +1,10 @@
 // Calls made by chance over many books, chosen by the hour that the book is in.
 use super::call::Call;
-use super::chance::{empty_all, few_of, fill, make};
-use super::pair::Pair;
+use super::run::Run;
 use super::shelves::Shelves;
-use super::some::{
-    good_prices, put_some_pledge, some_call, some_calling_call, some_crooked_places,
-    some_morning_call, some_payment, some_start,
-};
-use super::tally::{Row, Tally};
-use crate::dice::Dice;
-use std::alloc::{AllocError, Global};
+use super::some::{good_prices, some_crooked_places, some_start};
+use super::tally::{Kind, Row};
+use std::alloc::AllocError;
 use std::fmt::Display;
 use std::process::Abort;
 use std::test::Fail;
@@ -18,229 +13,121 @@ const SEED: u64 = 20_240_607;
 
 /// The causes for which each call can be refused so far.
 const CAUSES: [Row; 14] = [
-    ("open", &[2, 3]),
-    ("enrol", &[1, 2, 3, 4]),
-    ("offer", &[1, 2, 3, 4, 8]),
-    ("withdraw", &[1, 3, 5]),
-    ("apply", &[1, 2, 3, 5, 7]),
-    ("return", &[1, 2, 3, 5, 7]),
-    ("deposit", &[1, 2, 3, 5, 10, 14]),
-    ("pledge of a guarantee", &[1, 3, 4, 5, 10, 15]),
-    ("pledge of bonds", &[1, 3, 4, 5, 10, 15]),
-    ("release", &[1, 3, 5, 10, 12]),
-    ("ten", &[1, 3]),
-    ("examine and find short", &[1, 3, 5, 9]),
-    ("wait", &[9]),
-    ("examine and find met", &[]),
+    (Kind::Open, &[2, 3]),
+    (Kind::Enrol, &[1, 2, 3, 4]),
+    (Kind::Offer, &[1, 2, 3, 4, 8]),
+    (Kind::Withdraw, &[1, 3, 5]),
+    (Kind::Apply, &[1, 2, 3, 5, 7]),
+    (Kind::Return, &[1, 2, 3, 5, 7]),
+    (Kind::Deposit, &[1, 2, 3, 5, 10, 14]),
+    (Kind::Guarantee, &[1, 3, 4, 5, 10, 15]),
+    (Kind::Bonds, &[1, 3, 4, 5, 10, 15]),
+    (Kind::Release, &[1, 3, 5, 10, 12]),
+    (Kind::Ten, &[1, 3]),
+    (Kind::ExamineShort, &[1, 3, 5, 9]),
+    (Kind::Wait, &[9]),
+    (Kind::ExamineMet, &[]),
 ];
 
-/// A call that counts in the hour that the book is in. Of its own it never ends the morning.
-fn next_call(dice: &mut Dice, pair: &Pair, few: u64) -> Call {
-    if pair.second.is_morning() {
-        some_morning_call(dice, pair, few)
-    } else if pair.second.is_calling() {
-        some_calling_call(dice, pair, few)
+/// A call that counts in the hour that the book is in, over shelves that change now and then. Of its own it never ends the
+/// morning.
+fn next_call(run: &mut Run) -> Call {
+    if run.dice.one_in(8) {
+        run.put_some_pledge();
+    }
+    if run.pair.second.is_morning() {
+        run.some_morning_call()
+    } else if run.pair.second.is_calling() {
+        run.some_calling_call()
     } else {
-        some_call(dice, pair, few)
+        run.some_call()
     }
 }
 
-/// A part of a run of one book, each call counted.
-fn run(
-    rt: &impl Abort,
-    what: &impl Display,
-    dice: &mut Dice,
-    pair: &mut Pair,
-    few: u64,
-    calls: usize,
-    tally: &mut Tally,
-) {
-    for i in 0..calls {
-        if dice.one_in(8) {
-            put_some_pledge(dice, pair, few);
-        }
-        let call = next_call(dice, pair, few);
-        make(rt, &format_args!("{what}, call {i}"), pair, call, tally);
-    }
+/// One of the first accounts, which most calls are for.
+fn first_account(run: &mut Run) -> u8 {
+    let few = run.few.min(12);
+    run.dice.pick(few)
 }
 
 /// Calls over shelves with too few or too many places, which are then taken away again.
-fn run_crooked(
-    rt: &impl Abort,
-    what: &impl Display,
-    dice: &mut Dice,
-    pair: &mut Pair,
-    few: u64,
-    heap: Global,
-    tally: &mut Tally,
-) -> Result<(), AllocError> {
-    let (guarantees, bonds) = some_crooked_places(dice);
-    let crooked = Shelves::empty(guarantees, bonds, heap)?;
-    let whole = std::mem::replace(&mut pair.shelves, crooked);
-    make(rt, what, pair, Call::Ten, tally);
-    for i in 0..4 {
-        let call = some_call(dice, pair, few);
-        make(rt, &format_args!("{what}, call {i}"), pair, call, tally);
-    }
-    pair.shelves = whole;
+fn run_crooked(rt: &impl Abort, what: &impl Display, run: &mut Run) -> Result<(), AllocError> {
+    let (guarantees, bonds) = some_crooked_places(&mut run.dice);
+    let crooked = Shelves::empty(guarantees, bonds, run.heap)?;
+    let whole = std::mem::replace(&mut run.pair.shelves, crooked);
+    run.make(rt, what, Call::Ten)?;
+    run.make_all(rt, &format_args!("{what}, call"), 4, Run::some_call)?;
+    run.pair.shelves = whole;
     Ok(())
 }
 
-/// Gives most of the first accounts a start.
-fn begin(
-    rt: &impl Abort,
-    what: &impl Display,
-    dice: &mut Dice,
-    pair: &mut Pair,
-    few: u64,
-    tally: &mut Tally,
-) {
-    for i in 0..60 {
-        let account = dice.byte_below(few.min(12));
-        let call = some_start(dice, account);
-        make(rt, &format_args!("{what}, start {i}"), pair, call, tally);
-    }
-}
-
-/// Brings some of the first accounts to about their targets, which are their floors while nothing is owed.
-fn settle(
-    rt: &impl Abort,
-    what: &impl Display,
-    dice: &mut Dice,
-    pair: &mut Pair,
-    few: u64,
-    tally: &mut Tally,
-) {
-    for i in 0..3 {
-        let account = dice.byte_below(few.min(12));
-        let call = some_payment(dice, pair, account);
-        make(rt, &format_args!("{what}, payment {i}"), pair, call, tally);
-    }
-}
-
-/// No question shows the slips, so every account is asked for its own.
-fn wait_for_all(rt: &impl Abort, what: &impl Display, pair: &mut Pair) {
-    for account in 0..64 {
-        let _ = pair.answer(rt, what, Call::Deposit(account, 1));
-        let _ = pair.answer(rt, what, Call::Wait(account));
-        let _ = pair.answer(rt, what, Call::Deposit(account, 1));
-    }
-    pair.look_at_all(rt, what);
-}
-
-/// Some calls before the first day, and more in its morning.
-fn to_the_morning(
-    rt: &impl Abort,
-    what: &impl Display,
-    dice: &mut Dice,
-    pair: &mut Pair,
-    few: u64,
-    heap: Global,
-    tally: &mut Tally,
-) -> Result<(), AllocError> {
-    run(
+/// Some calls before the first day, then a start for most of the first accounts, and more in the morning.
+fn to_the_morning(rt: &impl Abort, what: &impl Display, run: &mut Run) -> Result<(), AllocError> {
+    run.make_all(
         rt,
-        &format_args!("{what}, from the blank hour on"),
-        dice,
-        pair,
-        few,
+        &format_args!("{what}, from the blank hour on, call"),
         12,
-        tally,
-    );
-    make(rt, what, pair, Call::Open(good_prices(dice)), tally);
-    if few == 1 {
-        fill(rt, what, pair);
+        next_call,
+    )?;
+    let prices = good_prices(&mut run.dice);
+    run.make(rt, what, Call::Open(prices))?;
+    if run.few == 1 {
+        run.fill(rt, what);
     }
-    begin(rt, what, dice, pair, few, tally);
-    run(
+    run.make_all(rt, &format_args!("{what}, start"), 60, |run| {
+        let account = first_account(run);
+        some_start(&mut run.dice, account)
+    })?;
+    run.make_all(
         rt,
-        &format_args!("{what}, in the morning"),
-        dice,
-        pair,
-        few,
+        &format_args!("{what}, in the morning, call"),
         100,
-        tally,
-    );
+        next_call,
+    )?;
     run_crooked(
         rt,
         &format_args!("{what}, over crooked shelves in the morning"),
-        dice,
-        pair,
-        few,
-        heap,
-        tally,
+        run,
     )
 }
 
-/// The calling hour after such a morning.
-fn calling_hour(
-    rt: &impl Abort,
-    what: &impl Display,
-    dice: &mut Dice,
-    pair: &mut Pair,
-    few: u64,
-    heap: Global,
-    tally: &mut Tally,
-) -> Result<(), AllocError> {
-    settle(rt, what, dice, pair, few, tally);
-    make(rt, what, pair, Call::Ten, tally);
-    run(
+/// The calling hour after such a morning. Some of the first accounts are first brought to about their targets, which are
+/// their floors while nothing is owed.
+fn calling_hour(rt: &impl Abort, what: &impl Display, run: &mut Run) -> Result<(), AllocError> {
+    run.make_all(rt, &format_args!("{what}, payment"), 3, |run| {
+        let account = first_account(run);
+        run.some_payment(account)
+    })?;
+    run.make(rt, what, Call::Ten)?;
+    run.make_all(
         rt,
-        &format_args!("{what}, in the calling hour"),
-        dice,
-        pair,
-        few,
+        &format_args!("{what}, in the calling hour, call"),
         120,
-        tally,
-    );
+        next_call,
+    )?;
     run_crooked(
         rt,
         &format_args!("{what}, over crooked shelves in the calling hour"),
-        dice,
-        pair,
-        few,
-        heap,
-        tally,
+        run,
     )?;
-    wait_for_all(rt, what, pair);
+    run.wait_for_all(rt, what);
     Ok(())
 }
 
 /// A quarter of the books end with the morning, and show which offers stand.
-fn whole_book(
-    rt: &impl Abort,
-    what: &impl Display,
-    dice: &mut Dice,
-    pair: &mut Pair,
-    round: u64,
-    heap: Global,
-    tally: &mut Tally,
-) -> Result<(), AllocError> {
-    let few = few_of(round);
-    to_the_morning(rt, what, dice, pair, few, heap, tally)?;
-    if round % 8 < 2 {
-        empty_all(rt, what, pair);
-        return Ok(());
-    }
-    calling_hour(rt, what, dice, pair, few, heap, tally)
-}
-
 #[test]
 fn both_agree_on_calls_chosen_by_the_hour(rt: HostRuntime) -> Result<(), Fail> {
-    let mut dice = Dice::new(SEED);
-    let mut tally = Tally::new();
+    let mut run = Run::new(SEED, rt.alloc())?;
     for round in 0..120 {
-        let mut pair = Pair::new(rt.alloc())?;
-        whole_book(
-            &rt,
-            &format_args!("seed {SEED}, book {round}"),
-            &mut dice,
-            &mut pair,
-            round,
-            rt.alloc(),
-            &mut tally,
-        )?;
+        let what = format_args!("seed {SEED}, book {round}");
+        run.begin(round)?;
+        to_the_morning(&rt, &what, &mut run)?;
+        if round % 8 < 2 {
+            run.empty_all(&rt, &what);
+        } else {
+            calling_hour(&rt, &what, &mut run)?;
+        }
     }
-    tally.is_enough(&rt, &CAUSES);
+    run.is_enough(&rt, &CAUSES);
     Ok(())
 }

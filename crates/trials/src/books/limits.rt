@@ -5,6 +5,7 @@ use super::call::Call::{Apply, Deposit, Enrol, Offer, Open, Return, Withdraw};
 use super::call::{Answer, Call};
 use super::pair::Pair;
 use std::alloc::{AllocError, Global};
+use std::fmt::Display;
 use std::process::Abort;
 use std::test::Fail;
 
@@ -181,6 +182,18 @@ pub(crate) fn opened(rt: &impl Abort, heap: Global) -> Result<Pair, AllocError> 
     Ok(pair)
 }
 
+/// The same, after calls with the answers that both have to give.
+pub(crate) fn opened_with(
+    rt: &impl Abort,
+    what: &impl Display,
+    calls: &[(Call, Answer)],
+    heap: Global,
+) -> Result<Pair, AllocError> {
+    let mut pair = opened(rt, heap)?;
+    pair.expect(rt, what, calls);
+    Ok(pair)
+}
+
 /// A hundred deposits of the most that one may be make the highest balance: here are 99, on account 7.
 pub(crate) fn nearly_fill(rt: &impl Abort, pair: &mut Pair) {
     let mut balance: i128 = 0;
@@ -227,12 +240,8 @@ fn limits_of_places_and_values(rt: HostRuntime) -> Result<(), Fail> {
 
 #[test]
 fn limit_of_a_balance(rt: HostRuntime) -> Result<(), Fail> {
-    let mut pair = opened(&rt, rt.alloc())?;
-    pair.expect(
-        &rt,
-        &"accounts",
-        &[(Enrol(7, 1, 4), Done), (Enrol(8, 2, 4), Done)],
-    );
+    let accounts = [(Enrol(7, 1, 4), Done), (Enrol(8, 2, 4), Done)];
+    let mut pair = opened_with(&rt, &"accounts", &accounts, rt.alloc())?;
     nearly_fill(&rt, &mut pair);
     pair.expect(&rt, &"last deposits", &LAST_DEPOSITS);
     Ok(())

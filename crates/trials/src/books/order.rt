@@ -2,7 +2,7 @@
 use super::call::Answer::{Done, Number, Refused};
 use super::call::Call::{Apply, Deposit, Enrol, Offer, Open, Return, Withdraw};
 use super::call::{Answer, Call};
-use super::limits::{PRICES, nearly_fill, opened};
+use super::limits::{PRICES, nearly_fill, opened_with};
 use super::pair::Pair;
 use std::test::Fail;
 
@@ -97,12 +97,8 @@ fn the_first_cause_before_the_first_day(rt: HostRuntime) -> Result<(), Fail> {
 
 #[test]
 fn the_first_cause_in_the_morning(rt: HostRuntime) -> Result<(), Fail> {
-    let mut pair = opened(&rt, rt.alloc())?;
-    pair.expect(
-        &rt,
-        &"start",
-        &[(Enrol(7, 1, 4), Done), (Offer(0, 4, 1, 0, 0), Done)],
-    );
+    let start = [(Enrol(7, 1, 4), Done), (Offer(0, 4, 1, 0, 0), Done)];
+    let mut pair = opened_with(&rt, &"start", &start, rt.alloc())?;
     nearly_fill(&rt, &mut pair);
     pair.expect(&rt, &"morning", &MORNING);
     pair.expect_one(&rt, Deposit(7, 1), Refused(14));

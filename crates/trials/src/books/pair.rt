@@ -1,5 +1,6 @@
 // The book and the second calculation, side by side over the same shelves.
 use super::call::{Answer, Call};
+use super::plain::{BONDED, GUARANTEED};
 use super::second::Second;
 use super::shelves::Shelves;
 use super::slips::Slips;
@@ -17,14 +18,16 @@ pub struct Pair {
     pub slips: Slips,
 }
 
+// `rt` and `what` stay two parameters: each step adds words of its own to `what`, so a struct of both would be made anew at
+// each.
 impl Pair {
     /// A blank book, and empty shelves.
     pub(crate) fn new(heap: Global) -> Result<Pair, AllocError> {
         Ok(Pair {
             book: Book::new(),
-            second: Second::new(heap)?,
+            second: Second::new(),
             shelves: Shelves::empty(128, 128, heap)?,
-            slips: Slips::none(heap)?,
+            slips: Slips::none(),
         })
     }
 
@@ -98,12 +101,12 @@ impl Pair {
         for place in 0..129 {
             assert_eq!(rt;
                 seen_at(&shelves.guarantees, place),
-                shelves.plain.seen_at(0, place, 100_000),
+                shelves.plain.seen_at(GUARANTEED, place, 100_000),
                 "{what}, place {place} of the guarantees"
             );
             assert_eq!(rt;
                 seen_at(&shelves.bonds, place),
-                shelves.plain.seen_at(1, place, u64::from(BLOCK_CENTS)),
+                shelves.plain.seen_at(BONDED, place, u64::from(BLOCK_CENTS)),
                 "{what}, place {place} of the bonds"
             );
         }

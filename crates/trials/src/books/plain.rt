@@ -1,7 +1,13 @@
 // The pledges on the two shelves in plain numbers.
 use std::alloc::{AllocError, Global};
 
-/// What stands at a place: an amount of 0 where there is nothing.
+/// The number of the shelf with the guarantees, and of that with the bonds.
+// Numbers, since a release may name any other as well.
+pub const GUARANTEED: u8 = 0;
+
+pub const BONDED: u8 = 1;
+
+/// A pledge in plain numbers.
 #[derive(Clone, Copy)]
 pub struct Lodged {
     pub account: u8,
@@ -10,16 +16,11 @@ pub struct Lodged {
     pub expiry: u16,
 }
 
-pub const NOTHING: Lodged = Lodged {
-    account: 0,
-    amount: 0,
-    expiry: 0,
-};
-
+/// What stands at each place of each shelf.
 #[derive(Drop)]
 pub struct Plain {
-    pub guaranteed: Vec<Lodged>,
-    pub bonded: Vec<Lodged>,
+    pub guaranteed: Vec<Option<Lodged>>,
+    pub bonded: Vec<Option<Lodged>>,
 }
 
 impl Plain {
@@ -30,8 +31,8 @@ impl Plain {
         heap: Global,
     ) -> Result<Plain, AllocError> {
         Ok(Plain {
-            guaranteed: vec![in heap; NOTHING; guarantees]?,
-            bonded: vec![in heap; NOTHING; bonds]?,
+            guaranteed: vec![in heap; None; guarantees]?,
+            bonded: vec![in heap; None; bonds]?,
         })
     }
 
@@ -40,39 +41,33 @@ impl Plain {
         self.guaranteed.len() == 128 && self.bonded.len() == 128
     }
 
-    /// What stands at a place of a shelf, 0 for the guarantees and 1 for the bonds.
-    pub(crate) fn at(&self, shelf: u8, place: u8) -> Lodged {
-        let found = match shelf {
-            0 => self.guaranteed.get(usize::from(place)),
-            1 => self.bonded.get(usize::from(place)),
-            _ => None,
+    /// What stands at a place of a shelf.
+    pub(crate) fn at(&self, shelf: u8, place: u8) -> Option<Lodged> {
+        let shelf = match shelf {
+            GUARANTEED => &self.guaranteed,
+            BONDED => &self.bonded,
+            _ => return None,
         };
-        found.copied().unwrap_or(NOTHING)
+        *shelf.get(usize::from(place))?
     }
 
     /// The account, the expiry and the amount at so many cents for each thousand or block, where anything stands there.
     pub(crate) fn seen_at(&self, shelf: u8, place: u8, cents: u64) -> Option<(u8, u16, u64)> {
-        let Lodged {
-            account,
-            amount,
-            expiry,
-        } = self.at(shelf, place);
-        if amount == 0 {
-            return None;
-        }
-        Some((account, expiry, u64::from(amount).wrapping_mul(cents)))
+        let lodged = self.at(shelf, place)?;
+        let amount = u64::from(lodged.amount).wrapping_mul(cents);
+        Some((lodged.account, lodged.expiry, amount))
     }
 
-    pub(crate) fn put(&mut self, shelf: u8, place: u8, lodged: Lodged) {
+    pub(crate) fn put(&mut self, shelf: u8, place: u8, lodged: Option<Lodged>) {
         match shelf {
-            0 => put_on(&mut self.guaranteed, place, lodged),
-            1 => put_on(&mut self.bonded, place, lodged),
+            GUARANTEED => put_on(&mut self.guaranteed, place, lodged),
+            BONDED => put_on(&mut self.bonded, place, lodged),
             _ => {}
         }
     }
 }
 
-fn put_on(shelf: &mut [Lodged], place: u8, lodged: Lodged) {
+fn put_on(shelf: &mut [Option<Lodged>], place: u8, lodged: Option<Lodged>) {
     if let Some(slot) = shelf.get_mut(usize::from(place)) {
         *slot = lodged;
     }

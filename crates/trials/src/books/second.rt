@@ -1,8 +1,7 @@
 // The second calculation: plain tables, amounts in i128, and for each call the list of all its causes of refusal, each worked
 // out by itself, of which the first that holds is given.
 use super::call::{Answer, Call, Stated};
-use super::plain::{Lodged, Plain};
-use std::alloc::{AllocError, Global};
+use super::plain::{BONDED, GUARANTEED, Lodged, Plain};
 
 mod collateral;
 mod notices;
@@ -24,89 +23,53 @@ enum Hour {
     Afternoon,
 }
 
-/// An account place.
-#[derive(Clone, Copy)]
+/// Where the notice of an account is.
+#[derive(Clone, Copy, PartialEq)]
+enum Notice {
+    Open,
+    /// Open, and a slip holds it.
+    Held,
+}
+
+/// An account. As a new one, an empty place owes nothing, asks for nothing and has nothing.
+#[derive(Clone, Copy, Default)]
 struct Row {
-    enrolled: bool,
     security: u8,
     owed: i128,
     applied: i128,
     barred: bool,
-    notice_open: bool,
-    slip_out: bool,
+    notice: Option<Notice>,
     balance: i128,
 }
-
-const NO_ACCOUNT: Row = Row {
-    enrolled: false,
-    security: 0,
-    owed: 0,
-    applied: 0,
-    barred: false,
-    notice_open: false,
-    slip_out: false,
-    balance: 0,
-};
 
 #[derive(Drop)]
 pub struct Second {
     day: i128,
     hour: Hour,
     prices: [i128; 8],
-    accounts: Vec<Row>,
-    /// Whether an offer stands at each place.
-    offered: Vec<bool>,
+    accounts: [Option<Row>; 64],
+    // What an offer says is never asked for again, so each place only tells whether one stands there.
+    offered: [bool; 256],
 }
 
 impl Second {
-    pub(crate) fn new(heap: Global) -> Result<Second, AllocError> {
-        Ok(Second {
+    pub(crate) fn new() -> Second {
+        Second {
             day: 0,
             hour: Hour::Blank,
             prices: [0; 8],
-            accounts: vec![in heap; NO_ACCOUNT; 64]?,
-            offered: vec![in heap; false; 256]?,
-        })
+            accounts: [None; 64],
+            offered: [false; 256],
+        }
     }
 
     /// Makes the call.
     pub(crate) fn answer(&mut self, plain: &mut Plain, call: Call) -> Answer {
-        match call {
-            Call::Guarantee(account, place, amount, expiry) => {
-                self.pledge(
-                    plain,
-                    0,
-                    place,
-                    Lodged {
-                        account,
-                        amount,
-                        expiry,
-                    },
-                )
-            }
-            Call::Bonds(account, place, blocks, expiry) => {
-                self.pledge(
-                    plain,
-                    1,
-                    place,
-                    Lodged {
-                        account,
-                        amount: u32::from(blocks),
-                        expiry,
-                    },
-                )
-            }
-            Call::Release(shelf, place) => self.release(plain, shelf, place),
-            Call::Ten => self.ten(plain),
-            Call::Examine(account) => self.examine(plain, account),
-            Call::Wait(account) => self.wait(account),
-            Call::WaitAstray(account) => self.wait(account),
-            _ => self.plain_answer(call),
-        }
+        self.made(plain, call).unwrap_or_else(Answer::Refused)
     }
 
-    /// Makes a call that needs no shelf and no slip.
-    fn plain_answer(&mut self, call: Call) -> Answer {
+    /// Makes the call, or gives the number of its refusal.
+    fn made(&mut self, plain: &mut Plain, call: Call) -> Result<Answer, u8> {
         match call {
             Call::Open(prices) => self.open(prices),
             Call::Enrol(account, firm, security) => self.enrol(account, i128::from(firm), security),
@@ -123,46 +86,55 @@ impl Second {
             Call::Apply(account, units) => self.apply(account, i128::from(units)),
             Call::Return(account, units) => self.return_units(account, i128::from(units)),
             Call::Deposit(account, cents) => self.deposit(account, i128::from(cents)),
-            _ => Answer::NotMade,
+            Call::Guarantee(account, place, amount, expiry) => {
+                let lodged = Lodged {
+                    account,
+                    amount,
+                    expiry,
+                };
+                self.pledge(plain, GUARANTEED, place, lodged)
+            }
+            Call::Bonds(account, place, blocks, expiry) => {
+                let lodged = Lodged {
+                    account,
+                    amount: u32::from(blocks),
+                    expiry,
+                };
+                self.pledge(plain, BONDED, place, lodged)
+            }
+            Call::Release(shelf, place) => self.release(plain, shelf, place),
+            Call::Ten => self.ten(plain),
+            Call::Examine(account) => self.examine(plain, account),
+            Call::Wait(account) | Call::WaitAstray(account) => self.wait(account),
         }
     }
 
-    fn open(&mut self, prices: [u32; 8]) -> Answer {
-        let causes = [
-            (2, some_outside(&prices, 1, 1_000_000)),
+    fn open(&mut self, prices: [u32; 8]) -> Result<Answer, u8> {
+        let is_outside = |price: &u32| outside(i128::from(*price), 1, 1_000_000);
+        none_of(&[
+            (2, prices.iter().any(is_outside)),
             (3, !self.is_one_of(&[Hour::Blank, Hour::Afternoon])),
             (16, self.day >= LAST_DAY),
-        ];
-        if let Some(number) = first_of(&causes) {
-            return Answer::Refused(number);
-        }
-        for (known, price) in self.prices.iter_mut().zip(prices.iter()) {
-            *known = i128::from(*price);
-        }
+        ])?;
+        self.prices = prices.map(i128::from);
         self.hour = Hour::Morning;
         self.day = self.day.wrapping_add(1);
-        Answer::Number(self.day)
+        Ok(Answer::Number(self.day))
     }
 
-    fn enrol(&mut self, account: u8, firm: i128, security: u8) -> Answer {
-        let causes = [
+    fn enrol(&mut self, account: u8, firm: i128, security: u8) -> Result<Answer, u8> {
+        none_of(&[
             (1, account > 63 || security > 7),
             (2, outside(firm, 1, 9_999)),
             (3, !self.is_one_of(&[Hour::Morning])),
-            (4, self.row(account).enrolled),
-        ];
-        if let Some(number) = first_of(&causes) {
-            return Answer::Refused(number);
-        }
-        self.put(
-            account,
-            Row {
-                enrolled: true,
-                security,
-                ..NO_ACCOUNT
-            },
-        );
-        Answer::Done
+            (4, self.account(account).is_some()),
+        ])?;
+        let new = Row {
+            security,
+            ..Row::default()
+        };
+        self.put(account, new);
+        Ok(Answer::Done)
     }
 
     fn offer(
@@ -172,100 +144,86 @@ impl Second {
         units: i128,
         rate: i128,
         commission: i128,
-    ) -> Answer {
+    ) -> Result<Answer, u8> {
         let hundred_rates = rate.wrapping_mul(100);
         let seven_prices = self.price(security).wrapping_mul(7);
         let in_range = !outside(units, 1, MOST_UNITS)
             && !outside(rate, 0, 70_000)
             && !outside(commission, 0, 10);
-        let causes = [
+        none_of(&[
             (1, place > 255 || security > 7),
             (2, !in_range),
             (3, !self.is_one_of(&[Hour::Morning])),
             (4, self.stands(place)),
             (8, hundred_rates > seven_prices),
-        ];
-        if let Some(number) = first_of(&causes) {
-            return Answer::Refused(number);
-        }
+        ])?;
         self.stand(place, true);
-        Answer::Done
+        Ok(Answer::Done)
     }
 
     /// Nothing is lent yet, so nothing is unpaid.
-    fn withdraw(&mut self, place: u16) -> Answer {
-        let causes = [
+    fn withdraw(&mut self, place: u16) -> Result<Answer, u8> {
+        none_of(&[
             (1, place > 255),
             (3, !self.is_one_of(&[Hour::Morning])),
             (5, !self.stands(place)),
-        ];
-        if let Some(number) = first_of(&causes) {
-            return Answer::Refused(number);
-        }
+        ])?;
         self.stand(place, false);
-        Answer::Unpaid(0, 0)
+        Ok(Answer::Unpaid(0, 0))
     }
 
-    fn apply(&mut self, account: u8, units: i128) -> Answer {
-        let row = self.row(account);
+    fn apply(&mut self, account: u8, units: i128) -> Result<Answer, u8> {
+        let place = self.account(account);
+        let row = place.unwrap_or_default();
         let applied = row.applied.wrapping_add(units);
-        let causes = [
+        none_of(&[
             (1, account > 63),
             (2, outside(units, 1, MOST_UNITS)),
             (3, !self.is_one_of(&[Hour::Morning])),
-            (5, !row.enrolled),
+            (5, place.is_none()),
             (6, row.barred),
             (7, applied.wrapping_add(row.owed) > MOST_UNITS),
-        ];
-        if let Some(number) = first_of(&causes) {
-            return Answer::Refused(number);
-        }
+        ])?;
         self.put(account, Row { applied, ..row });
-        Answer::Number(applied)
+        Ok(Answer::Number(applied))
     }
 
-    fn return_units(&mut self, account: u8, units: i128) -> Answer {
-        let row = self.row(account);
+    fn return_units(&mut self, account: u8, units: i128) -> Result<Answer, u8> {
+        let place = self.account(account);
+        let row = place.unwrap_or_default();
         let owed = row.owed.wrapping_sub(units);
-        let causes = [
+        none_of(&[
             (1, account > 63),
             (2, outside(units, 1, MOST_UNITS)),
             (3, !self.is_one_of(&[Hour::Morning])),
-            (5, !row.enrolled),
+            (5, place.is_none()),
             (7, owed < 0),
-        ];
-        if let Some(number) = first_of(&causes) {
-            return Answer::Refused(number);
-        }
+        ])?;
         self.put(account, Row { owed, ..row });
-        Answer::Number(owed)
+        Ok(Answer::Number(owed))
     }
 
-    fn deposit(&mut self, account: u8, cents: i128) -> Answer {
-        let row = self.row(account);
+    fn deposit(&mut self, account: u8, cents: i128) -> Result<Answer, u8> {
+        let place = self.account(account);
+        let row = place.unwrap_or_default();
         let balance = row.balance.wrapping_add(cents);
-        let causes = [
+        none_of(&[
             (1, account > 63),
             (2, outside(cents, 1, MOST_DEPOSIT)),
             (3, self.is_one_of(&[Hour::Blank])),
-            (5, !row.enrolled),
-            (10, row.slip_out),
+            (5, place.is_none()),
+            (10, row.notice == Some(Notice::Held)),
             (14, balance > MOST_BALANCE),
-        ];
-        if let Some(number) = first_of(&causes) {
-            return Answer::Refused(number);
-        }
+        ])?;
         self.put(account, Row { balance, ..row });
-        Answer::Number(balance)
+        Ok(Answer::Number(balance))
     }
 
     /// The statement of an account, or the number of its refusal.
     pub(crate) fn statement(&self, plain: &Plain, account: u8) -> Result<Stated, u8> {
-        let row = self.row(account);
-        let causes = [(1, account > 63 || !plain.is_whole()), (5, !row.enrolled)];
-        if let Some(number) = first_of(&causes) {
-            return Err(number);
-        }
+        let place = self.account(account);
+        none_of(&[(1, account > 63 || !plain.is_whole()), (5, place.is_none())])?;
+        let row = place.unwrap_or_default();
         let floor = self.floor(row);
         let cover = self.cover(plain, account);
         Ok(Stated {
@@ -282,13 +240,14 @@ impl Second {
 
     /// Bit n is set while account n has an open notice: from the last account to the first, each is the next binary digit.
     pub(crate) fn notice_word(&self) -> u64 {
-        let mut word: u64 = 0;
-        for row in self.accounts.iter().rev() {
-            word = word
-                .wrapping_mul(2)
-                .wrapping_add(u64::from(row.notice_open));
-        }
-        word
+        let digits = self
+            .accounts
+            .iter()
+            .rev()
+            .map(|place| place.is_some_and(|row| row.notice.is_some()));
+        digits.fold(0, |word: u64, digit| {
+            word.wrapping_mul(2).wrapping_add(u64::from(digit))
+        })
     }
 
     fn floor(&self, row: Row) -> i128 {
@@ -314,14 +273,20 @@ impl Second {
         let guaranteed = in_cents(thousands.wrapping_mul(1_000));
         let face = in_cents(blocks.wrapping_mul(100_000));
         let pledged = guaranteed.wrapping_add(per_cent(90, face));
-        self.row(account).balance.wrapping_add(pledged)
+        let balance = self.account(account).map_or(0, |row| row.balance);
+        balance.wrapping_add(pledged)
     }
 
     /// The amounts of the account's pledges that expire on a later day.
-    fn alive(&self, shelf: &[Lodged], account: u8) -> i128 {
+    fn alive(&self, shelf: &[Option<Lodged>], account: u8) -> i128 {
         let mut amounts: i128 = 0;
-        for lodged in shelf {
-            if lodged.account == account && i128::from(lodged.expiry) > self.day {
+        // No chain: the trials by the hour look at a place some hundred million times, and with a chain they take more than twice
+        // as long where every step is checked, which is past the minute that a test has.
+        for place in shelf {
+            if let Some(lodged) = place
+                && lodged.account == account
+                && i128::from(lodged.expiry) > self.day
+            {
                 amounts = amounts.wrapping_add(i128::from(lodged.amount));
             }
         }
@@ -341,24 +306,18 @@ impl Second {
         self.prices.get(usize::from(security)).copied().unwrap_or(0)
     }
 
-    fn row(&self, account: u8) -> Row {
-        self.accounts
-            .get(usize::from(account))
-            .copied()
-            .unwrap_or(NO_ACCOUNT)
+    fn account(&self, account: u8) -> Option<Row> {
+        *self.accounts.get(usize::from(account))?
     }
 
     fn put(&mut self, account: u8, row: Row) {
         if let Some(place) = self.accounts.get_mut(usize::from(account)) {
-            *place = row;
+            *place = Some(row);
         }
     }
 
     fn stands(&self, place: u16) -> bool {
-        self.offered
-            .get(usize::from(place))
-            .copied()
-            .unwrap_or(false)
+        self.offered.get(usize::from(place)) == Some(&true)
     }
 
     fn stand(&mut self, place: u16, offered: bool) {
@@ -372,29 +331,17 @@ impl Second {
     }
 }
 
-/// The number of the first cause that holds: from the last to the first, each takes the place of those after it.
-fn first_of(causes: &[(u8, bool)]) -> Option<u8> {
-    let mut first = None;
-    for (number, holds) in causes.iter().rev() {
-        if *holds {
-            first = Some(*number);
-        }
+/// That no cause holds, or the number of the first that does.
+// A table of each cause and whether it holds is read at a glance; with a `then_some` behind each it is not.
+fn none_of(causes: &[(u8, bool)]) -> Result<(), u8> {
+    match causes.iter().find(|(_, holds)| *holds) {
+        Some((number, _)) => Err(*number),
+        None => Ok(()),
     }
-    first
 }
 
 fn outside(value: i128, low: i128, high: i128) -> bool {
     value < low || high < value
-}
-
-fn some_outside(values: &[u32], low: i128, high: i128) -> bool {
-    let mut count: u32 = 0;
-    for value in values {
-        if outside(i128::from(*value), low, high) {
-            count = count.wrapping_add(1);
-        }
-    }
-    count > 0
 }
 
 /// What the shares of so many units are worth, in cents.

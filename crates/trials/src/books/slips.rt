@@ -2,7 +2,6 @@
 use book::{Book, Examined, Slip};
 use kinds::{Bond, Guarantee};
 use shelf::Held;
-use std::alloc::{AllocError, Global};
 
 /// A slip that may be let go, so that a test may end anywhere: a book that knows nothing of it then spends it.
 pub struct Kept {
@@ -30,16 +29,14 @@ impl Drop for Kept {
 /// The last slip that was given for each account, if it is not spent.
 #[derive(Drop)]
 pub struct Slips {
-    kept: Vec<Option<Kept>>,
+    kept: [Option<Kept>; 64],
 }
 
 impl Slips {
-    pub(crate) fn none(heap: Global) -> Result<Slips, AllocError> {
-        let mut kept = Vec::new(heap);
-        for _ in 0..64 {
-            kept.push(None)?;
+    pub(crate) fn none() -> Slips {
+        Slips {
+            kept: [const { None }; 64],
         }
-        Ok(Slips { kept })
     }
 
     pub(crate) fn keep(&mut self, account: u8, kept: Kept) {
@@ -50,17 +47,11 @@ impl Slips {
 
     /// The slip kept for an account, or else a slip that another book gave.
     pub(crate) fn take(&mut self, account: u8) -> Option<Kept> {
-        match self.own(account) {
-            Some(kept) => Some(kept),
-            None => astray(account),
-        }
+        self.own(account).or_else(|| astray(account))
     }
 
     fn own(&mut self, account: u8) -> Option<Kept> {
-        match self.kept.get_mut(usize::from(account)) {
-            Some(slot) => slot.take(),
-            None => None,
-        }
+        self.kept.get_mut(usize::from(account))?.take()
     }
 }
 
@@ -73,14 +64,7 @@ pub(crate) fn astray(account: u8) -> Option<Kept> {
     let _ = other.enrol(account, 1, 0);
     let _ = other.apply(account, 1);
     let _ = other.ten(&guarantees, &bonds);
-    match other.examine(&guarantees, &bonds, account) {
-        Ok(found) => slip_of(found),
-        Err(_) => None,
-    }
-}
-
-fn slip_of(found: Examined) -> Option<Kept> {
-    match found {
+    match other.examine(&guarantees, &bonds, account).ok()? {
         Examined::Met => None,
         Examined::Short(_, slip) => Some(Kept::new(slip)),
     }

@@ -1,93 +1,99 @@
 // How often each call was made and what it was answered, so that no cause is left out by chance.
 use super::call::{Answer, Call};
+use std::alloc::{AllocError, Global};
+use std::collections::BTreeMap;
 use std::process::Abort;
 
-const KINDS: usize = 14;
+/// A call without its values.
+#[derive(Clone, Copy, Debug, PartialEq, Eq, PartialOrd, Ord)]
+pub enum Kind {
+    Open,
+    Enrol,
+    Offer,
+    Withdraw,
+    Apply,
+    Return,
+    Deposit,
+    Guarantee,
+    Bonds,
+    Release,
+    Ten,
+    /// An examination that finds cover short, or is refused.
+    ExamineShort,
+    Wait,
+    /// An examination that finds cover at the target.
+    ExamineMet,
+}
 
-/// What nobody owes is not returned.
-const RETURN: usize = 5;
+/// A kind of call, and the causes for which it has to be refused.
+pub type Row = (Kind, &'static [u8]);
 
-/// An examination that finds cover at the target, which has a row to itself.
-const MET: usize = 13;
-
-/// A call, and the causes for which it has to be refused, in the order of the rows.
-pub type Row = (&'static str, &'static [usize]);
-
-/// For each row how often the call was refused for each cause, and at 0 how often it was not refused.
+/// For each kind how often the call was refused for each cause, and at `None` how often it was not refused.
 #[derive(Drop)]
 pub struct Tally {
-    counts: [[usize; 17]; KINDS],
+    counts: BTreeMap<(Kind, Option<u8>), usize>,
 }
 
 impl Tally {
-    pub(crate) fn new() -> Tally {
+    pub(crate) fn new(heap: Global) -> Tally {
         Tally {
-            counts: [[0; 17]; KINDS],
+            counts: BTreeMap::new(heap),
         }
     }
 
-    pub(crate) fn count(&mut self, call: Call, answer: Answer) {
-        let column = match answer {
-            Answer::Refused(number) => usize::from(number),
-            _ => 0,
+    pub(crate) fn count(&mut self, call: Call, answer: Answer) -> Result<(), AllocError> {
+        let cause = match answer {
+            Answer::Refused(number) => Some(number),
+            _ => None,
         };
-        if let Some(row) = self.counts.get_mut(row_of(call, answer)) {
-            if let Some(count) = row.get_mut(column) {
-                *count = count.saturating_add(1);
-            }
-        }
+        let count = self
+            .counts
+            .entry((kind_of(call, answer), cause))?
+            .or_insert(0);
+        *count = count.saturating_add(1);
+        Ok(())
     }
 
-    fn at(&self, row: usize, column: usize) -> usize {
-        match self.counts.get(row) {
-            Some(counts) => counts.get(column).copied().unwrap_or(0),
-            None => 0,
-        }
+    fn at(&self, kind: Kind, cause: Option<u8>) -> usize {
+        self.counts.get(&(kind, cause)).copied().unwrap_or(0)
     }
 
     /// Every call came through fifty times, but for the return of what nobody owes, and was refused ten times for each cause.
     pub(crate) fn is_enough(&self, rt: &impl Abort, rows: &[Row]) {
-        for (row, (name, causes)) in rows.iter().enumerate() {
-            let accepted = self.at(row, 0);
-            let enough = if row == RETURN {
+        for (kind, causes) in rows {
+            let accepted = self.at(*kind, None);
+            let enough = if *kind == Kind::Return {
                 accepted == 0
             } else {
                 accepted >= 50
             };
-            assert!(rt; enough, "{name} came through {accepted} times");
+            assert!(rt; enough, "{kind:?} came through {accepted} times");
             for cause in causes.iter() {
-                let refused = self.at(row, *cause);
+                let refused = self.at(*kind, Some(*cause));
                 assert!(rt;
                     refused >= 10,
-                    "{name} was refused {refused} times for {cause}"
+                    "{kind:?} was refused {refused} times for {cause}"
                 );
             }
         }
     }
 }
 
-fn row_of(call: Call, answer: Answer) -> usize {
+fn kind_of(call: Call, answer: Answer) -> Kind {
     match call {
-        Call::Open(_) => 0,
-        Call::Enrol(_, _, _) => 1,
-        Call::Offer(_, _, _, _, _) => 2,
-        Call::Withdraw(_) => 3,
-        Call::Apply(_, _) => 4,
-        Call::Return(_, _) => RETURN,
-        Call::Deposit(_, _) => 6,
-        Call::Guarantee(_, _, _, _) => 7,
-        Call::Bonds(_, _, _, _) => 8,
-        Call::Release(_, _) => 9,
-        Call::Ten => 10,
-        Call::Examine(_) => examined(answer),
-        Call::Wait(_) => 12,
-        Call::WaitAstray(_) => 12,
-    }
-}
-
-fn examined(answer: Answer) -> usize {
-    match answer {
-        Answer::Met => MET,
-        _ => 11,
+        Call::Open(_) => Kind::Open,
+        Call::Enrol(..) => Kind::Enrol,
+        Call::Offer(..) => Kind::Offer,
+        Call::Withdraw(_) => Kind::Withdraw,
+        Call::Apply(..) => Kind::Apply,
+        Call::Return(..) => Kind::Return,
+        Call::Deposit(..) => Kind::Deposit,
+        Call::Guarantee(..) => Kind::Guarantee,
+        Call::Bonds(..) => Kind::Bonds,
+        Call::Release(..) => Kind::Release,
+        Call::Ten => Kind::Ten,
+        Call::Examine(_) if answer == Answer::Met => Kind::ExamineMet,
+        Call::Examine(_) => Kind::ExamineShort,
+        Call::Wait(_) | Call::WaitAstray(_) => Kind::Wait,
     }
 }

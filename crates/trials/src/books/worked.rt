@@ -2,7 +2,7 @@
 use super::call::Answer::{Done, Number};
 use super::call::Call::{Apply, Deposit, Enrol};
 use super::call::{Answer, Call, Stated};
-use super::limits::{nearly_fill, opened};
+use super::limits::{nearly_fill, opened_with};
 use super::pair::Pair;
 use super::shelves::Shelves;
 use super::tried::statement_of;
@@ -85,8 +85,7 @@ fn lodge(shelves: &mut Shelves) {
 /// account 4 a guarantee of 900,000 cents and two bonds, 9,000,000 and 90,000,000,000 cents; of the others nothing.
 #[test]
 fn pledges_of_an_account_that_have_not_expired(rt: HostRuntime) -> Result<(), Fail> {
-    let mut pair = opened(&rt, rt.alloc())?;
-    pair.expect(&rt, &"accounts", &ACCOUNTS);
+    let mut pair = opened_with(&rt, &"accounts", &ACCOUNTS, rt.alloc())?;
     tells(
         &rt,
         &pair,
@@ -124,8 +123,7 @@ fn pledges_of_an_account_that_have_not_expired(rt: HostRuntime) -> Result<(), Fa
 /// Either kind may stand on either shelf.
 #[test]
 fn kinds_on_either_shelf(rt: HostRuntime) -> Result<(), Fail> {
-    let mut pair = opened(&rt, rt.alloc())?;
-    pair.expect(&rt, &"accounts", &ACCOUNTS);
+    let mut pair = opened_with(&rt, &"accounts", &ACCOUNTS, rt.alloc())?;
     lodge(&mut pair.shelves);
     let guarantees = &pair.shelves.guarantees;
     let bonds = &pair.shelves.bonds;
@@ -151,12 +149,8 @@ fn kinds_on_either_shelf(rt: HostRuntime) -> Result<(), Fail> {
 /// blocks are 11,520,000,000,000.
 #[test]
 fn the_highest_cover(rt: HostRuntime) -> Result<(), Fail> {
-    let mut pair = opened(&rt, rt.alloc())?;
-    pair.expect(
-        &rt,
-        &"account",
-        &[(Enrol(7, 9_999, 7), Done), (Apply(7, 1_000), Number(1_000))],
-    );
+    let account = [(Enrol(7, 9_999, 7), Done), (Apply(7, 1_000), Number(1_000))];
+    let mut pair = opened_with(&rt, &"account", &account, rt.alloc())?;
     nearly_fill(&rt, &mut pair);
     pair.expect_one(
         &rt,
@@ -182,8 +176,7 @@ fn the_highest_cover(rt: HostRuntime) -> Result<(), Fail> {
 #[test]
 fn places_of_a_shelf(rt: HostRuntime) -> Result<(), Fail> {
     let heap = rt.alloc();
-    let mut pair = opened(&rt, heap)?;
-    pair.expect(&rt, &"accounts", &ACCOUNTS);
+    let mut pair = opened_with(&rt, &"accounts", &ACCOUNTS, heap)?;
     for (first, second) in [
         (127, 128),
         (128, 127),

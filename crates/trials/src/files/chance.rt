@@ -1,21 +1,24 @@
 // Files made by chance: good ones, good ones that were damaged, and bytes with no order.
-use super::agree::{both_find, reader_finds};
+use super::agree::Readers;
 use super::made::{KINDS, put_record};
 use super::outline::Found;
 use super::second::second_reading;
 use crate::dice::Dice;
 use std::alloc::{AllocError, Global};
+use std::collections::BTreeMap;
 use std::test::Fail;
 
 /// A good file with so many records.
 fn good_file(dice: &mut Dice, records: usize, heap: Global) -> Result<Vec<u8>, AllocError> {
     let mut file = vec![in heap; 1]?;
     for _ in 0..records {
-        let (kind, width) = KINDS.get(dice.index_below(16)).copied().unwrap_or((11, 0));
+        let (kind, width) = KINDS
+            .get(dice.pick::<usize>(16))
+            .copied()
+            .unwrap_or((11, 0));
         let fields = some_bytes(dice, width, 0, 256, heap)?;
         // Now and then the longest memo.
-        let longest = dice.index_below(8) == 0;
-        let memo_length = if longest { 64 } else { dice.index_below(10) };
+        let memo_length = if dice.one_in(8) { 64 } else { dice.pick(10) };
         let memo = some_bytes(dice, memo_length, 33, 94, heap)?;
         put_record(&mut file, kind, &fields, &memo)?;
     }
@@ -27,65 +30,67 @@ fn some_bytes(
     dice: &mut Dice,
     count: usize,
     low: u8,
-    choices: usize,
+    choices: u64,
     heap: Global,
 ) -> Result<Vec<u8>, AllocError> {
-    let mut bytes = Vec::new(heap);
-    for _ in 0..count {
-        bytes.push(dice.byte_below(choices as u64).wrapping_add(low))?;
-    }
-    Ok(bytes)
+    (0..count)
+        .map(|_| dice.pick::<u8>(choices).wrapping_add(low))
+        .collect(heap)
 }
 
 /// One byte of the file becomes another.
 fn with_a_change(dice: &mut Dice, mut file: Vec<u8>) -> Vec<u8> {
-    if let Some(byte) = file.get_mut(dice.index_below(file.len())) {
-        *byte = dice.byte_below(256);
+    let place = some_place(dice, &file);
+    if let Some(byte) = file.get_mut(place) {
+        *byte = dice.pick(256);
     }
     file
 }
 
 /// Only a part from the start is left.
 fn cut_off(dice: &mut Dice, mut file: Vec<u8>) -> Vec<u8> {
-    file.truncate(dice.index_below(file.len()));
+    let place = some_place(dice, &file);
+    file.truncate(place);
     file
 }
 
 /// Up to four bytes more in the middle.
 fn with_more(dice: &mut Dice, file: Vec<u8>, heap: Global) -> Result<Vec<u8>, AllocError> {
-    let (front, back) = file
-        .split_at_checked(dice.index_below(file.len()))
-        .unwrap_or((&[], &[]));
+    let place = some_place(dice, &file);
+    let (front, back) = file.split_at_checked(place).unwrap_or((&[], &[]));
     let mut longer = front.to_vec(heap)?;
-    let count = dice.index_below(4).wrapping_add(1);
+    let count = dice.pick::<usize>(4).wrapping_add(1);
     longer.extend_from_slice(&some_bytes(dice, count, 0, 256, heap)?)?;
     longer.extend_from_slice(back)?;
     Ok(longer)
 }
 
-/// Bytes with no order, most of them low, so that lengths and kinds are often possible; the version is mostly there.
+/// A place of the file's bytes.
+fn some_place(dice: &mut Dice, file: &[u8]) -> usize {
+    dice.pick(file.len() as u64)
+}
+
+/// Bytes with no order; the version is mostly there.
 fn no_order(dice: &mut Dice, heap: Global) -> Result<Vec<u8>, AllocError> {
-    let mut file = Vec::new(heap);
-    let version = if dice.index_below(8) == 0 {
-        dice.byte_below(256)
-    } else {
-        1
-    };
-    file.push(version)?;
-    for _ in 0..dice.index_below(40) {
-        let byte = match dice.index_below(4) {
-            0 | 1 => 0,
-            2 => dice.byte_below(20),
-            _ => dice.byte_below(256),
-        };
-        file.push(byte)?;
-    }
+    let version = if dice.one_in(8) { dice.pick(256) } else { 1 };
+    let mut file = vec![in heap; version]?;
+    let count = dice.pick::<usize>(40);
+    file.extend((0..count).map(|_| low_byte(dice)))?;
     Ok(file)
+}
+
+/// Most bytes are low, so that lengths and kinds are often possible.
+fn low_byte(dice: &mut Dice) -> u8 {
+    match dice.below(4) {
+        0 | 1 => 0,
+        2 => dice.pick(20),
+        _ => dice.pick(256),
+    }
 }
 
 /// The file of a round: the five ways take turns.
 fn file_of(round: usize, dice: &mut Dice, heap: Global) -> Result<Vec<u8>, AllocError> {
-    let records = dice.index_below(9);
+    let records = dice.pick(9);
     let file = good_file(dice, records, heap)?;
     match round % 5 {
         0 => Ok(file),
@@ -96,48 +101,46 @@ fn file_of(round: usize, dice: &mut Dice, heap: Global) -> Result<Vec<u8>, Alloc
     }
 }
 
-/// How many files were good with three records or more, and how many had each fault from 20 to 24.
+/// How many files were good with three records or more, and how many had each fault, by its number.
 #[derive(Drop)]
 struct Tally {
     good: usize,
-    faults: [usize; 5],
+    faults: BTreeMap<u8, usize>,
 }
 
 impl Tally {
-    fn count(&mut self, found: &Found) {
+    fn count(&mut self, found: &Found) -> Result<(), AllocError> {
         match found.fault {
-            None => {
-                if found.records.len() > 2 {
-                    self.good = self.good.saturating_add(1);
-                }
-            }
             Some(told) => {
-                let index = usize::from(told.number).wrapping_sub(20);
-                if let Some(faults) = self.faults.get_mut(index) {
-                    *faults = faults.saturating_add(1);
-                }
+                let faults = self.faults.entry(told.number)?.or_insert(0);
+                *faults = faults.saturating_add(1);
             }
+            None if found.records.len() > 2 => self.good = self.good.saturating_add(1),
+            None => {}
         }
+        Ok(())
     }
 }
 
 #[test]
 fn both_agree_on_files_made_by_chance(rt: HostRuntime) -> Result<(), Fail> {
     let heap = rt.alloc();
+    let readers = Readers { rt: &rt, heap };
     let mut dice = Dice::new(20_261_118);
     let mut tally = Tally {
         good: 0,
-        faults: [0; 5],
+        faults: BTreeMap::new(heap),
     };
     for round in 0..5_000 {
         let file = file_of(round, &mut dice, heap)?;
         let found = second_reading(&file, heap)?;
-        reader_finds(&rt, &format_args!("file {round}"), &found, &file, heap)?;
-        tally.count(&found);
+        readers.reader_finds(&format_args!("file {round}"), &found, &file)?;
+        tally.count(&found)?;
     }
     assert!(rt; tally.good >= 500, "too few good files");
-    for (number, count) in (20..25).zip(tally.faults.iter()) {
-        assert!(rt; *count >= 10, "too few files with fault {number}");
+    for number in 20..25 {
+        let count = tally.faults.get(&number).copied().unwrap_or(0);
+        assert!(rt; count >= 10, "too few files with fault {number}");
     }
     Ok(())
 }
@@ -146,18 +149,12 @@ fn both_agree_on_files_made_by_chance(rt: HostRuntime) -> Result<(), Fail> {
 #[test]
 fn good_files_are_read_whole(rt: HostRuntime) -> Result<(), Fail> {
     let heap = rt.alloc();
+    let readers = Readers { rt: &rt, heap };
     let mut dice = Dice::new(81_116_202);
     for round in 0..500 {
-        let records = dice.index_below(100);
+        let records = dice.pick(100);
         let file = good_file(&mut dice, records, heap)?;
-        both_find(
-            &rt,
-            &format_args!("file {round}"),
-            &file,
-            records,
-            None,
-            heap,
-        )?;
+        readers.both_find(&format_args!("file {round}"), &file, records, None)?;
     }
     Ok(())
 }

@@ -1,5 +1,5 @@
 // One record of each kind, with values that tell its fields apart.
-use super::agree::{reader_finds, same};
+use super::agree::Readers;
 use super::outline::{Found, Outline};
 use super::second::second_reading;
 use std::test::Fail;
@@ -140,22 +140,25 @@ const SAMPLES: [Sample; 16] = [
 #[test]
 fn each_field_has_its_value(rt: HostRuntime) -> Result<(), Fail> {
     let heap = rt.alloc();
+    let readers = Readers { rt: &rt, heap };
     let mut file = vec![in heap; 1]?;
     let mut records = Vec::new(heap);
-    for sample in SAMPLES.iter() {
+    for sample in &SAMPLES {
         file.extend_from_slice(sample.bytes)?;
-        records.push(Outline::new(sample.kind, sample.fields, sample.memo, sample.memo_place))?;
+        records.push(Outline::new(
+            sample.kind,
+            sample.fields,
+            sample.memo,
+            sample.memo_place,
+            heap,
+        )?)?;
     }
     let expected = Found {
         records,
         fault: None,
     };
-    reader_finds(&rt, &"reader", &expected, &file, heap)?;
-    same(
-        &rt,
-        &"second reader",
-        &second_reading(&file, heap)?,
-        &expected,
-    );
+    readers.reader_finds(&"reader", &expected, &file)?;
+    let found = second_reading(&file, heap)?;
+    readers.same(&"second reader", &found, &expected);
     Ok(())
 }

@@ -1,7 +1,6 @@
 // Every fault with its layer, number and place, and which one is told where two are to be found.
-use super::agree::both_find;
+use super::agree::Readers;
 use dayfile::{Layer, Told};
-use std::alloc::Global;
 use std::process::Abort;
 use std::test::Fail;
 
@@ -108,12 +107,11 @@ const ODD_MEMO: [Case; 7] = [
     ),
 ];
 
-fn try_all(
-    rt: &impl Abort,
+fn try_all<R: Abort>(
+    readers: &Readers<'_, R>,
     cases: &[Case],
     layer: Layer,
     number: u8,
-    heap: Global,
 ) -> Result<(), Fail> {
     for (why, file, records, place) in cases {
         let told = Told {
@@ -121,17 +119,20 @@ fn try_all(
             number,
             place: *place,
         };
-        both_find(rt, why, file, *records, Some(told), heap)?;
+        readers.both_find(why, file, *records, Some(told))?;
     }
     Ok(())
 }
 
 #[test]
 fn each_fault_tells_its_layer_number_and_place(rt: HostRuntime) -> Result<(), Fail> {
-    let heap = rt.alloc();
-    try_all(&rt, &NO_VERSION, Layer::File, 20, heap)?;
-    try_all(&rt, &ENDS_INSIDE, Layer::Record, 23, heap)?;
-    try_all(&rt, &BAD_LENGTH, Layer::Record, 21, heap)?;
-    try_all(&rt, &NO_KIND, Layer::Record, 22, heap)?;
-    try_all(&rt, &ODD_MEMO, Layer::Memo, 24, heap)
+    let readers = Readers {
+        rt: &rt,
+        heap: rt.alloc(),
+    };
+    try_all(&readers, &NO_VERSION, Layer::File, 20)?;
+    try_all(&readers, &ENDS_INSIDE, Layer::Record, 23)?;
+    try_all(&readers, &BAD_LENGTH, Layer::Record, 21)?;
+    try_all(&readers, &NO_KIND, Layer::Record, 22)?;
+    try_all(&readers, &ODD_MEMO, Layer::Memo, 24)
 }

@@ -28,8 +28,7 @@ pub(crate) fn one_record(
     memo: &[u8],
     heap: Global,
 ) -> Result<Vec<u8>, AllocError> {
-    let mut file = Vec::new(heap);
-    file.push(1)?;
+    let mut file = vec![in heap; 1]?;
     let fields = vec![in heap; 0; width]?;
     put_record(&mut file, kind, &fields, memo)?;
     Ok(file)
@@ -43,8 +42,8 @@ pub(crate) fn put_record(
     memo: &[u8],
 ) -> Result<(), AllocError> {
     let length = fields.len().wrapping_add(memo.len()).wrapping_add(1);
-    file.push((length >> 8 & 0xff) as u8)?;
-    file.push((length & 0xff) as u8)?;
+    let length = (length & 0xffff) as u16;
+    file.extend_from_slice(&length.to_be_bytes())?;
     file.push(kind)?;
     file.extend_from_slice(fields)?;
     file.extend_from_slice(memo)

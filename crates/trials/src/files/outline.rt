@@ -1,17 +1,63 @@
 // What a reader finds in a file, in a form that owns its bytes and can be compared whole.
-use dayfile::Told;
-
-/// The most bytes that a memo has.
-pub const MEMO_MOST: usize = 64;
+use dayfile::{Fault, Told};
+use std::alloc::{AllocError, AllocFailed, Global};
 
 /// One record: its kind, the values of its fields in order with zeros past them, and its memo.
-#[derive(Clone, Copy, Debug, PartialEq)]
+#[derive(Debug, Drop, PartialEq)]
 pub struct Outline {
     pub kind: u8,
+    // As many as the longest kind has, so that a table of records is written down with no heap.
     pub fields: [u64; 8],
     pub memo_place: usize,
-    pub memo_length: usize,
-    pub memo: [u8; 64],
+    pub memo: Vec<u8>,
+}
+
+impl Outline {
+    pub(crate) fn new(
+        kind: u8,
+        fields: [u64; 8],
+        memo: &[u8],
+        memo_place: usize,
+        heap: Global,
+    ) -> Result<Outline, AllocError> {
+        Ok(Outline {
+            kind,
+            fields,
+            memo_place,
+            memo: memo.to_vec(heap)?,
+        })
+    }
+}
+
+/// What ends a reading before the end of the file.
+#[derive(Debug, Drop)]
+pub enum Stop {
+    Fault(Told),
+    Memory(AllocError),
+}
+
+impl From<Told> for Stop {
+    fn from(told: Told) -> Stop {
+        Stop::Fault(told)
+    }
+}
+
+impl From<Fault> for Stop {
+    fn from(fault: Fault) -> Stop {
+        Stop::Fault(fault.told())
+    }
+}
+
+impl From<AllocError> for Stop {
+    fn from(error: AllocError) -> Stop {
+        Stop::Memory(error)
+    }
+}
+
+impl From<AllocFailed<Outline>> for Stop {
+    fn from(failed: AllocFailed<Outline>) -> Stop {
+        Stop::Memory(AllocError::from(failed))
+    }
 }
 
 /// The records of a file in order, and the fault that stopped the reading.
@@ -21,19 +67,14 @@ pub struct Found {
     pub fault: Option<Told>,
 }
 
-impl Outline {
-    /// The memo's length is kept beside its first 64 bytes, so that a longer one does not go unseen.
-    pub(crate) fn new(kind: u8, fields: [u64; 8], memo: &[u8], memo_place: usize) -> Outline {
-        let mut kept = [0; MEMO_MOST];
-        for (slot, byte) in kept.iter_mut().zip(memo.iter()) {
-            *slot = *byte;
-        }
-        Outline {
-            kind,
-            fields,
-            memo_place,
-            memo_length: memo.len(),
-            memo: kept,
-        }
+impl Found {
+    /// The records that a reading found up to its end, for which memory sufficed.
+    pub(crate) fn new(records: Vec<Outline>, end: Result<(), Stop>) -> Result<Found, AllocError> {
+        let fault = match end {
+            Ok(()) => None,
+            Err(Stop::Fault(told)) => Some(told),
+            Err(Stop::Memory(error)) => return Err(error),
+        };
+        Ok(Found { records, fault })
     }
 }

@@ -20,17 +20,13 @@ const FAULTY: [(&'static [u8], Layer, u8); 4] = [
 
 /// What a reader answered: what a fault told, or whether there was a record.
 fn answer(asked: Result<Option<Record<'_>>, Fault>) -> Result<bool, Told> {
-    match asked {
-        Ok(record) => Ok(record.is_some()),
-        Err(fault) => Err(fault.told()),
-    }
+    asked
+        .map(|record| record.is_some())
+        .map_err(|fault| fault.told())
 }
 
 fn opened(file: &[u8]) -> Result<Reader<'_>, Fail> {
-    match Reader::open(file) {
-        Ok(reader) => Ok(reader),
-        Err(fault) => Err(Fail::new(fault.expected())),
-    }
+    Reader::open(file).map_err(|fault| Fail::new(fault.expected()))
 }
 
 #[test]

@@ -1,77 +1,66 @@
 // What the day-file reader says of a file, as outlines: once by a sink that `read_file` fills, once record by record.
-ghost use Rattle.std.specs.Prelude.{◌≡◌, ◌+◌, false, vec_len};
+ghost use Rattle.std.specs.Prelude.{◌≡◌, ◌+◌, vec_len, IfOk};
 
-use super::outline::{Found, Outline};
-use dayfile::{Fault, Instruction, Reader, Record, Sink, Told, read_file, read_prices};
+use super::outline::{Found, Outline, Stop};
+use dayfile::{Instruction, Reader, Record, Sink, read_file, read_prices};
 use std::alloc::{AllocError, Global};
 
-/// The records that were handed over, one for each call of `take`, unless memory was missing for one.
+/// The outlines of the records that were handed over, one for each call of `take`, unless memory was missing for one.
 #[derive(Drop)]
 struct Taken {
-    records: Vec<Outline>,
-    lost: bool,
+    heap: Global,
+    records: Result<Vec<Outline>, AllocError>,
 }
 
 impl Sink for Taken {
-    ghost takes = { λ s r t. t.lost ≡ false → vec_len t.records ≡ vec_len s.records + 1 };
+    ghost takes = { λ s r t. IfOk t.records (λ after. IfOk s.records (λ before. vec_len after ≡ vec_len before + 1)) };
 
     fn take(&mut self, record: Record<'_>) {
-        if self.records.push(outline_of(&record)).is_err() {
-            self.lost = true;
+        if let Ok(records) = &mut self.records {
+            let kept = keep(records, &record, self.heap);
+            if let Err(error) = kept {
+                self.records = Err(error);
+            }
         }
     }
+}
+
+fn keep(records: &mut Vec<Outline>, record: &Record<'_>, heap: Global) -> Result<(), AllocError>
+    ensures { IfOk result (λ _. vec_len records.new ≡ vec_len records.old + 1) }
+{
+    records.push(outline_of(record, heap)?)?;
+    Ok(())
 }
 
 /// What `read_file` hands to a sink, and its answer.
 pub(crate) fn handed_over(file: &[u8], heap: Global) -> Result<Found, AllocError> {
     let mut taken = Taken {
-        records: Vec::new(heap),
-        lost: false,
+        heap,
+        records: Ok(Vec::new(heap)),
     };
-    let fault = told_by(read_file(file, &mut taken));
-    if taken.lost {
-        return Err(AllocError);
-    }
-    Ok(Found {
-        records: taken.records,
-        fault,
-    })
+    let end = read_file(file, &mut taken);
+    Found::new(taken.records?, end.map_err(Stop::from))
 }
 
 /// What a `Reader` gives, asked again and again.
 pub(crate) fn one_by_one(file: &[u8], heap: Global) -> Result<Found, AllocError> {
     let mut records = Vec::new(heap);
-    let fault = told_by(ask_all(file, &mut records)?);
-    Ok(Found { records, fault })
+    let end = ask_all(file, &mut records, heap);
+    Found::new(records, end)
 }
 
-fn ask_all(file: &[u8], records: &mut Vec<Outline>) -> Result<Result<(), Fault>, AllocError> {
-    let mut reader = match Reader::open(file) {
-        Ok(reader) => reader,
-        Err(fault) => return Ok(Err(fault)),
-    };
-    // A record takes two bytes at least, so there are fewer records than bytes.
-    for _ in 0..file.len() {
-        match reader.next_record() {
-            Ok(Some(record)) => records.push(outline_of(&record))?,
-            Ok(None) => break,
-            Err(fault) => return Ok(Err(fault)),
-        }
+fn ask_all(file: &[u8], records: &mut Vec<Outline>, heap: Global) -> Result<(), Stop> {
+    let mut reader = Reader::open(file)?;
+    while let Some(record) = reader.next_record()? {
+        records.push(outline_of(&record, heap)?)?;
     }
-    Ok(Ok(()))
-}
-
-fn told_by(answer: Result<(), Fault>) -> Option<Told> {
-    match answer {
-        Ok(()) => None,
-        Err(fault) => Some(fault.told()),
-    }
+    Ok(())
 }
 
 /// The outline of a record that the reader gave.
-pub(crate) fn outline_of(record: &Record<'_>) -> Outline {
+fn outline_of(record: &Record<'_>, heap: Global) -> Result<Outline, AllocError> {
     let (kind, fields) = fields_of(&record.instruction);
-    Outline::new(kind, fields, record.memo.bytes, record.memo.place)
+    Outline::new(kind, fields, record.memo.bytes, record.memo.place, heap)
 }
 
 fn fields_of(instruction: &Instruction<'_>) -> (u8, [u64; 8]) {
@@ -150,21 +139,10 @@ fn fields_of(instruction: &Instruction<'_>) -> (u8, [u64; 8]) {
 
 /// Kind 1 with its prices. A part that does not hold eight prices gets kind 0, which no other outline has.
 fn prices_of(part: &[u8]) -> (u8, [u64; 8]) {
-    let Some(prices) = read_prices(part) else {
-        return (0, [0; 8]);
-    };
-    let mut fields = [0; 8];
-    for (field, price) in fields.iter_mut().zip(prices.iter()) {
-        *field = u64::from(*price);
-    }
-    (1, fields)
+    read_prices(part).map_or((0, [0; 8]), |prices| (1, prices.map(u64::from)))
 }
 
 /// The values, and zeros past them.
 fn padded(values: &[u64]) -> [u64; 8] {
-    let mut fields = [0; 8];
-    for (field, value) in fields.iter_mut().zip(values.iter()) {
-        *field = *value;
-    }
-    fields
+    std::array::from_fn(|i| values.get(i).copied().unwrap_or(0))
 }
