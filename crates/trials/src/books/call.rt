@@ -44,6 +44,7 @@ pub enum Answer {
     /// An examination finds cover so many cents below the target, and gives a slip for an account.
     Short(i128, u8),
     /// By the number of the cause.
+    // The number and no `Refusal`: what is expected is written from the rules, which know numbers alone.
     Refused(u8),
     /// There is no such pledge or slip, so the book was not asked.
     NotMade,

@@ -92,6 +92,7 @@ fn low_byte(dice: &mut Dice) -> u8 {
 fn file_of(round: usize, dice: &mut Dice, heap: Global) -> Result<Vec<u8>, AllocError> {
     let records = dice.pick(9);
     let file = good_file(dice, records, heap)?;
+    // No table of ways: some want the heap, and one is the file as it is.
     match round % 5 {
         0 => Ok(file),
         1 => Ok(with_a_change(dice, file)),

@@ -5,6 +5,7 @@ use std::alloc::{AllocError, AllocFailed, Global};
 /// One record: its kind, the values of its fields in order with zeros past them, and its memo.
 #[derive(Debug, Drop, PartialEq)]
 pub struct Outline {
+    // The number that stands in the file: the second reader is written from the format, and knows no kind of the first.
     pub kind: u8,
     // As many as the longest kind has, so that a table of records is written down with no heap.
     pub fields: [u64; 8],
