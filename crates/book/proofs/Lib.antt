@@ -1,3 +1,2 @@
-pub mod Pledging
 pub mod Releases
 pub mod Buying

@@ -46,6 +46,7 @@ pub fn draw_on<P: Pledge>(
     total
 }
 
+// Ask, day and price go on as they came: a pledge is drawn on by these three, by the trait that its kind implements.
 /// Draws on the pledge at place `k` for `ask` cents.
 fn draw_at<P: Pledge>(
     shelf: &mut [Option<Held<P>>],

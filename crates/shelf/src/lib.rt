@@ -20,6 +20,7 @@ use pledge::Pledge;
 /// The places of a shelf.
 pub const SHELF_PLACES: usize = 128;
 
+// How long a shelf is stands where it is read: shelves are lent by callers as slices of any length, to be read or changed.
 /// The cents that the account's pledges on the shelf cover on a day.
 pub fn cover_of<P: Pledge>(shelf: &[Option<Held<P>>], account: u8, day: u16) -> u64
     requires { length shelf.now ≤ shelf_places }

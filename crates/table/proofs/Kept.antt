@@ -1,7 +1,6 @@
 -- What keeps a table sound.
 use Rattle.std.proofs.Common.{◌≡◌, ℕ, zero, suc, ◌+◌, ◌-◌, ◌<◌, ◌≤◌, Bool, true, false, not, cond, List, get_or, replicate, is_some, ℤ, pos, ◌≤ℤ◌, Some, None, Option, sym, refl, ap, ◌∙◌, subst, arith, length-set}
 use denote.Enum.Bare.{sameb}
-use Rattle.std.specs.Option.{option_map}
 use Rattle.std.proofs.lemmas.Int.{ints}
 use Rattle.std.proofs.lemmas.Bool.{true≢false}
 use Rattle.bits.proofs.Words.{bit_none}
@@ -10,21 +9,20 @@ use Rattle.lending.specs.declared.offer.Offer.{Offer}
 use Rattle.lending.specs.Measures.{top_units}
 use Rattle.lending.specs.Eleven.{accounts_after, offers_after}
 use Rattle.lending.proofs.After.{accounts_long, offers_long, accounts_taken, accounts_sound, offers_sound}
-use Rattle.lending.specs.Sound.{SoundLoan, SoundBalance, SoundAccount, SoundAccounts, SoundTerms, SoundEarnings, SoundOffer, SoundOffers, securities, top_rate, top_commission, top_balance}
+use Rattle.lending.specs.Sound.{SoundLoan, SoundBalance, SoundAccount, SoundAccounts, SoundTerms, SoundEarnings, SoundOffers, securities, top_balance}
 use Rattle.table.specs.contracts.hour.Hour.{the_type}
 use Rattle.table.specs.declared.hour.Hour.{Hour}
 use Rattle.table.specs.declared.hour.Hour.TheVariants as hour
 use Rattle.table.specs.declared.table.Table.{Table}
 use Rattle.table.specs.Act.{first}
-use Rattle.table.specs.Tables.{account_at, offer_at, elevens, blank, calling, afternoon, taken, with_account, with_offer, blank_table}
+use Rattle.table.specs.Tables.{account_at, elevens, blank, calling, afternoon, taken, with_account, blank_table}
 use Rattle.table.specs.Limits.{last_day}
-use Rattle.table.specs.Sound.{Sound, Begun, SoundOfferSlot}
+use Rattle.table.specs.Sound.{Sound, Begun}
 use Rattle.table.specs.Days.{all_priced, open_act}
 use Rattle.table.specs.Accounts.{enrolled, with_owed, with_applied, with_balance}
-use Rattle.table.specs.Offers.{offered}
-use Rattle.table.specs.Elevens.{eleven_causes, struck, paid_out}
+use Rattle.table.specs.Elevens.{eleven_causes, struck}
 use Rattle.table.proofs.Prices.{priced_at}
-use Rattle.table.proofs.Slots.{each_put, still_taken, of_some, of_none}
+use Rattle.table.proofs.Slots.{each_put, still_taken, of_none}
 
 cond_le : (b : Bool) (m n k : ℕ) → m ≤ k → n ≤ k → cond b m n ≤ k
 cond_le true m n k p q = p
@@ -47,41 +45,6 @@ module _ (t : Table) (s : Sound t) where
     idle = s.idle;
   }
 
-  -- an account changed in its place
-  pub changed_kept : (i : ℕ) (a : Account) (f : Account → Account) → account_at t i ≡ Some a →
-      SoundAccount (elevens t) (f a) → Sound (with_account t i (option_map f (account_at t i)))
-  changed_kept i a f is h =
-      subst (λ (o : Option Account). Sound (with_account t i (option_map f o))) (sym is)
-      (account_kept i (Some (f a)) (of_some (SoundAccount (elevens t)) (f a) h) (λ _. refl))
-
-  pub offer_kept : (i : ℕ) (o : Option Offer) → ((x : Offer) → o ≡ Some x → SoundOffer (elevens t) x) → Sound (with_offer t i o)
-  offer_kept i o h = record {
-    dated = s.dated;
-    sized = (s.sized.0, simp length-set s.sized.1);
-    priced = s.priced;
-    loans = s.loans;
-    balances = s.balances;
-    terms = each_put SoundTerms t.offers i o (λ x e. (h x e).0) s.terms;
-    earnings = each_put (SoundEarnings (elevens t)) t.offers i o (λ x e. (h x e).1) s.earnings;
-    held = s.held;
-    noticed = s.noticed;
-    idle = s.idle;
-  }
-
-  -- an offer changed in its place
-  pub offer_changed : (i : ℕ) (o : Offer) (f : Offer → Offer) → offer_at t i ≡ Some o → SoundOffer (elevens t) (f o) →
-      Sound (with_offer t i (option_map f (offer_at t i)))
-  offer_changed i o f is h =
-      subst (λ (x : Option Offer). Sound (with_offer t i (option_map f x))) (sym is)
-      (offer_kept i (Some (f o)) (of_some (SoundOffer (elevens t)) (f o) h))
-
-  pub emptied_kept : (i : ℕ) → Sound (with_offer t i None)
-  emptied_kept i = offer_kept i None (of_none (SoundOffer (elevens t)))
-
-pub offer_slot : (e : ℕ) (o : Option Offer) → ((x : Offer) → o ≡ Some x → SoundOffer e x) → SoundOfferSlot e o
-offer_slot e None h = tt
-offer_slot e (Some x) h = h x refl
-
 pub enrolled_sound : (e firm security : ℕ) → security < securities → SoundAccount e (enrolled firm security)
 enrolled_sound e firm security h = ((h, omega arith, omega arith), (omega (arith, ints), omega (arith, ints)))
 
@@ -97,12 +60,6 @@ returned_sound e a n s h = ((s.0.0, omega (arith, s.0.1), when_none a.barred (a.
 
 pub raised_sound : (e : ℕ) (a : Account) (z : ℤ) → SoundAccount e a → a.balance ≤ℤ z → z ≤ℤ pos top_balance → SoundAccount e (with_balance z a)
 raised_sound e a z s up h = (s.0, (omega (arith, ints, s.1.0), h))
-
-pub offered_sound : (e security units rate commission : ℕ) → security < securities → units ≤ top_units → rate ≤ top_rate → commission ≤ top_commission → SoundOffer e (offered security units rate commission)
-offered_sound e security units rate commission h u r c = ((h, u, r, c), omega arith)
-
-pub paid_out_sound : (e : ℕ) (o : Offer) → SoundOffer e o → SoundOffer e (paid_out o)
-paid_out_sound e o s = (s.0, omega arith)
 
 -- what holds after some elevens holds after more
 balance_later : (e f : ℕ) (a : Account) → e ≤ f → SoundBalance e a → SoundBalance f a
