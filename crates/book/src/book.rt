@@ -1,5 +1,6 @@
 ghost use Rattle.std.specs.Prelude.{◌≡◌};
 ghost use Rattle.table.specs.Tables.{blank_table};
+ghost use Rattle.table.specs.Sound.{Begun};
 
 use table::Ledger;
 
@@ -11,10 +12,11 @@ mod questions;
 mod refunds;
 mod slips;
 
-/// A ledger that only the calls can change.
+/// A ledger that only the calls can change, and whose days have begun unless it is blank.
 #[derive(Drop)]
 pub struct Book {
     ledger: Ledger,
+    ghost begun: { Begun ledger.table },
 }
 
 impl Book {

@@ -4,6 +4,7 @@ ghost use Rattle.std.specs.Option.{option_map};
 ghost use Rattle.lending.specs.Measures.{top_units};
 ghost use Rattle.lending.specs.Sound.{account_places, lowest, top_balance, top_charges, top_cost, top_share_price};
 ghost use Rattle.shelf.specs.Limits.{top_cover};
+ghost use Rattle.table.specs.Sound.{Begun};
 ghost use Rattle.table.specs.Act.{first as first_cause};
 ghost use Rattle.table.specs.Limits.{last_day};
 ghost use Rattle.margin.specs.BuyIns.{PurchaseFound, Settles, barred_at, bought_in, buy_in_causes, cost_at, passes, settled};
@@ -87,6 +88,7 @@ pub fn settle(ledger: &mut Ledger, account: u8, purchase: Purchase, yields: u64)
     requires settles { Settles ledger.old.table account purchase yields }
     ensures value { result ≡ settled purchase.account.balance purchase.cost yields }
     ensures done { ledger.new.table ≡ bought_in account purchase.cost yields ledger.old.table }
+    ensures begun { Begun ledger.old.table → Begun ledger.new.table }
 {
     let balance = after(purchase.account.balance, purchase.cost, yields);
     bar(&mut ledger.table.accounts[account as usize], balance);

@@ -3,6 +3,7 @@ ghost use Rattle.std.specs.Prelude.{◌≡◌, ℕ, ◌*◌, ◌<◌, ◌≤◌,
 ghost use Rattle.lending.specs.Sound.{SoundAccount, account_places};
 ghost use Rattle.shelf.specs.Limits.{top_cover, shelf_places};
 ghost use Rattle.table.specs.declared.hour.Hour.TheVariants.{Morning};
+ghost use Rattle.table.specs.Sound.{Begun};
 ghost use Rattle.table.specs.Act.{Acted, Answered, Found, first as first_cause};
 ghost use Rattle.table.specs.Tables.{account_at, elevens};
 ghost use Rattle.margin.specs.Margins.{Lacks, covered, short, target_on};
@@ -37,6 +38,7 @@ pub fn call_short(ledger: &mut Ledger, covers: &[u64]) -> u32
     requires covers { (k : ℕ) → k < account_places → slice_index covers.now k ≤ 2 * top_cover }
     ensures value { result ≡ count_ones (short_among ledger.old.table (λ k. slice_index covers.now k)) }
     ensures done { ledger.new.table ≡ called ledger.old.table (short_among ledger.old.table (λ k. slice_index covers.now k)) }
+    ensures begun { Begun ledger.old.table → Begun ledger.new.table }
 {
     let short = short_places(ledger, covers);
     ledger.table.hour = Hour::Calling;
@@ -98,6 +100,7 @@ pub fn examine(ledger: &mut Ledger, place: u8, a: Account, pledged: PledgedCents
     requires known { Examinable ledger.old.table place a }
     ensures value { Lacks (target_on ledger.old.table (Some a)) (covered (Some a) pledged.cents) result }
     ensures done { ledger.new.table ≡ examined ledger.old.table place result }
+    ensures begun { Begun ledger.old.table → Begun ledger.new.table }
 {
     let lack = lacking(ledger, a, pledged);
     match lack {
@@ -120,6 +123,7 @@ fn lacking(ledger: &Ledger, a: Account, pledged: PledgedCents) -> Option<i64>
 pub fn wait(ledger: &mut Ledger, account: u8) -> Result<(), Refusal>
     requires known { account < account_places }
     ensures acted { Acted (wait_act account) ledger.old.table ledger.new.table result }
+    ensures begun { Begun ledger.old.table → Begun ledger.new.table }
 {
     if !ledger.table.slips.contains(account) {
         return Err(Refusal::NoNotice);

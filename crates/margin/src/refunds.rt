@@ -1,5 +1,6 @@
 // Paying an account out and closing it.
 ghost use Rattle.std.specs.Prelude.{◌≡◌, IfOk, None};
+ghost use Rattle.table.specs.Sound.{Begun};
 ghost use Rattle.table.specs.Act.{Found, first as first_cause};
 ghost use Rattle.table.specs.Tables.{account_at, with_account};
 ghost use Rattle.margin.specs.Refunds.{Refundable, cents_of, refund_causes};
@@ -33,6 +34,7 @@ pub fn vacate(ledger: &mut Ledger, account: u8, a: Account) -> u64
     requires known { Refundable ledger.old.table account a }
     ensures value { result ≡ cents_of a.balance }
     ensures done { ledger.new.table ≡ with_account ledger.old.table account None }
+    ensures begun { Begun ledger.old.table → Begun ledger.new.table }
 {
     ledger.table.accounts[account as usize] = None;
     a.balance as u64

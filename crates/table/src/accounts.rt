@@ -2,6 +2,7 @@
 ghost use Rattle.std.specs.Prelude.{◌≡◌, ◌≤◌, true, pos, ◌+ℤ◌, ◌≤ℤ◌};
 ghost use Rattle.std.specs.Option.{option_map};
 ghost use Rattle.lending.specs.Sound.{top_balance, lowest};
+ghost use Rattle.table.specs.Sound.{Begun};
 ghost use Rattle.table.specs.Act.{Acted};
 ghost use Rattle.table.specs.Limits.{top_deposit, last_day};
 ghost use Rattle.table.specs.Accounts.{with_balance, with_applied, with_owed, enrol_act, apply_act, return_act, deposit_act};
@@ -15,7 +16,8 @@ use lending::Account;
 impl Ledger {
     /// Gives a place to a firm and a security, at balance 0.
     pub fn enrol(&mut self, account: u8, firm: u16, security: u8) -> Result<(), Refusal>
-        ensures { Acted (enrol_act account firm security) self.old.table self.new.table result }
+        ensures acted { Acted (enrol_act account firm security) self.old.table self.new.table result }
+        ensures begun { Begun self.old.table → Begun self.new.table }
     {
         if account >= ACCOUNT_PLACES || security >= SECURITIES {
             return Err(Refusal::NoSuchPlace);
@@ -42,7 +44,8 @@ impl Ledger {
 
     /// Adds applied units, and answers all applied.
     pub fn apply(&mut self, account: u8, units: u16) -> Result<u16, Refusal>
-        ensures { Acted (apply_act account units) self.old.table self.new.table result }
+        ensures acted { Acted (apply_act account units) self.old.table self.new.table result }
+        ensures begun { Begun self.old.table → Begun self.new.table }
     {
         if account >= ACCOUNT_PLACES {
             return Err(Refusal::NoSuchPlace);
@@ -71,7 +74,8 @@ impl Ledger {
 
     /// Takes units off the owed ones, and answers the rest.
     pub fn return_units(&mut self, account: u8, units: u16) -> Result<u16, Refusal>
-        ensures { Acted (return_act account units) self.old.table self.new.table result }
+        ensures acted { Acted (return_act account units) self.old.table self.new.table result }
+        ensures begun { Begun self.old.table → Begun self.new.table }
     {
         if account >= ACCOUNT_PLACES {
             return Err(Refusal::NoSuchPlace);
@@ -97,7 +101,8 @@ impl Ledger {
 
     /// Adds cents to the balance, and answers it.
     pub fn deposit(&mut self, account: u8, cents: u64) -> Result<i64, Refusal>
-        ensures { Acted (deposit_act account cents) self.old.table self.new.table result }
+        ensures acted { Acted (deposit_act account cents) self.old.table self.new.table result }
+        ensures begun { Begun self.old.table → Begun self.new.table }
     {
         if account >= ACCOUNT_PLACES {
             return Err(Refusal::NoSuchPlace);

@@ -1,6 +1,7 @@
 // A day begins.
 ghost use Rattle.std.specs.Prelude.{◌≡◌, not};
 ghost use Rattle.lending.specs.Measures.{top_price};
+ghost use Rattle.table.specs.Sound.{Begun};
 ghost use Rattle.table.specs.Act.{Acted, outside};
 ghost use Rattle.table.specs.Days.{all_priced, open_act};
 
@@ -12,7 +13,8 @@ use super::refusal::Refusal;
 impl Ledger {
     /// Begins the next day with its prices, and answers the day.
     pub fn open(&mut self, prices: [u32; 8]) -> Result<u16, Refusal>
-        ensures { Acted (open_act prices) self.old.table self.new.table result }
+        ensures acted { Acted (open_act prices) self.old.table self.new.table result }
+        ensures begun { Begun self.old.table → Begun self.new.table }
     {
         if !all_priced(&prices) {
             return Err(Refusal::OutOfRange);

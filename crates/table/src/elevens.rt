@@ -1,6 +1,7 @@
 // Eleven o'clock, and paying what was earned.
 ghost use Rattle.std.specs.Prelude.{◌≡◌};
 ghost use Rattle.std.specs.Option.{option_map};
+ghost use Rattle.table.specs.Sound.{Begun};
 ghost use Rattle.table.specs.Act.{Acted};
 ghost use Rattle.table.specs.Elevens.{eleven_act, paid_out, pay_out_act};
 
@@ -13,7 +14,9 @@ use lending::{Offer, eleven};
 impl Ledger {
     /// Lends, charges and begins the afternoon, and answers all fees and all voucher units.
     pub fn eleven(&mut self) -> Result<(u64, u64), Refusal>
-        ensures { Acted eleven_act self.old.table self.new.table result }
+        requires { Begun self.old.table }
+        ensures acted { Acted eleven_act self.old.table self.new.table result }
+        ensures begun { Begun self.new.table }
     {
         if self.table.hour != Hour::Calling {
             return Err(Refusal::WrongHour);
@@ -28,7 +31,8 @@ impl Ledger {
 
     /// Pays what an offer earned, and answers it: the lender's part and the broker's.
     pub fn pay_out(&mut self, place: u16) -> Result<(u64, u64), Refusal>
-        ensures { Acted (pay_out_act place) self.old.table self.new.table result }
+        ensures acted { Acted (pay_out_act place) self.old.table self.new.table result }
+        ensures begun { Begun self.old.table → Begun self.new.table }
     {
         if place >= OFFER_PLACES {
             return Err(Refusal::NoSuchPlace);

@@ -1,5 +1,6 @@
 // Calls on one offer.
 ghost use Rattle.std.specs.Prelude.{◌≡◌};
+ghost use Rattle.table.specs.Sound.{Begun};
 ghost use Rattle.table.specs.Act.{Acted};
 ghost use Rattle.table.specs.Offers.{offer_act, withdraw_act};
 
@@ -19,7 +20,8 @@ impl Ledger {
         rate: u32,
         commission: u8,
     ) -> Result<(), Refusal>
-        ensures { Acted (offer_act place security units rate commission) self.old.table self.new.table result }
+        ensures acted { Acted (offer_act place security units rate commission) self.old.table self.new.table result }
+        ensures begun { Begun self.old.table → Begun self.new.table }
     {
         if place >= OFFER_PLACES || security >= SECURITIES {
             return Err(Refusal::NoSuchPlace);
@@ -49,7 +51,8 @@ impl Ledger {
 
     /// Ends an offer, and answers its unpaid earnings: the lender's part and the broker's.
     pub fn withdraw(&mut self, place: u16) -> Result<(u64, u64), Refusal>
-        ensures { Acted (withdraw_act place) self.old.table self.new.table result }
+        ensures acted { Acted (withdraw_act place) self.old.table self.new.table result }
+        ensures begun { Begun self.old.table → Begun self.new.table }
     {
         if place >= OFFER_PLACES {
             return Err(Refusal::NoSuchPlace);

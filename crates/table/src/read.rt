@@ -3,7 +3,7 @@ ghost use Rattle.std.specs.Prelude.{◌≡◌, ◌<◌, ◌≤◌};
 ghost use Rattle.lending.specs.Measures.{top_price};
 ghost use Rattle.lending.specs.Sound.{securities, account_places, offer_places};
 ghost use Rattle.table.specs.Tables.{account_at, offer_at, price_at, elevens, blank_table};
-ghost use Rattle.table.specs.Sound.{SoundSlot, SoundOfferSlot};
+ghost use Rattle.table.specs.Sound.{Begun, SoundSlot, SoundOfferSlot};
 
 use super::hour::Hour;
 use super::ledger::Ledger;
@@ -14,7 +14,8 @@ use lending::{ACCOUNT_PLACES, Account, OFFER_PLACES, Offer, SECURITIES};
 impl Ledger {
     /// The blank hour of day 0, with every place empty.
     pub fn blank() -> Ledger
-        ensures { result.table ≡ blank_table }
+        ensures value { result.table ≡ blank_table }
+        ensures begun { Begun result.table }
     {
         Ledger {
             table: Table {

@@ -23,4 +23,4 @@ invariant_of-ledger c =
     let done =
     ap (λ (o : Option Account). closed_with_words t k o c.remove.new.self c.remove-2.new.self) (c.bar.ensures ∙ slot)
     ∙ closed_words t k (option_map (bought p.cost c.args.yields) (account_at t k)) c.remove.ensures c.remove-2.ensures in
-    record { sound = kept_as (bought_in k p.cost c.args.yields t) _ done (bought_in_kept t l.sound k p c.args.yields c.requires.settles); begun = l.begun }
+    record { sound = kept_as (bought_in k p.cost c.args.yields t) _ done (bought_in_kept t l.sound k p c.args.yields c.requires.settles) }

@@ -1,5 +1,4 @@
 use Rattle.std.proofs.Common.{ℕ, get_or, ap}
-use Rattle.table.specs.Tables.{blank}
 use Rattle.table.proofs.Kept.{kept_as}
 use Rattle.margin.specs.Notices.{called}
 use Rattle.margin.proofs.Kept.{called_kept}
@@ -9,7 +8,4 @@ pub invariant_of-ledger : goal.invariant_of-ledger
 invariant_of-ledger c =
     let l = c.args.ledger.now in
     let covers : ℕ → ℕ = λ k. get_or c.args.covers.now k 0 in
-    record {
-      sound = kept_as _ _ (ap (called l.table) c.short_places-short.ensures) (called_kept l.table l.sound covers c.requires.hour);
-      begun = λ _. l.begun (ap blank c.requires.hour);
-    }
+    record { sound = kept_as _ _ (ap (called l.table) c.short_places-short.ensures) (called_kept l.table l.sound covers c.requires.hour) }

@@ -7,4 +7,4 @@ use Rattle.margin.proofs.notices.wait.Goals as goal
 pub invariant_of-ledger : goal.invariant_of-ledger
 invariant_of-ledger c =
     let l = c.args.ledger.now in
-    record { sound = kept_as _ _ (ap (with_slips l.table) c.remove.ensures) (back_kept l.table l.sound c.args.account); begun = l.begun }
+    record { sound = kept_as _ _ (ap (with_slips l.table) c.remove.ensures) (back_kept l.table l.sound c.args.account) }

@@ -14,4 +14,4 @@ invariant_of-self c =
     let sound : SoundAccount (elevens l.table) a = (l.sound.loans c.args.account a c.in-Some-accounts.is, l.sound.balances c.args.account a c.in-Some-accounts.is) in
     let new = applied_sound (elevens l.table) a _ sound (ap (λ x. x.barred) (sym same) ∙ c.if-a.false) (omega (arith, ap (λ x. x.owed) same)) in
     let s = account_kept l.table l.sound c.args.account _ (of_some (SoundAccount (elevens l.table)) (with_applied _ a) new) (λ _. refl) in
-    record { sound = s; begun = l.begun }
+    record { sound = s }

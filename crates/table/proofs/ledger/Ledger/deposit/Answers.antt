@@ -15,4 +15,4 @@ invariant_of-self c =
     let sound : SoundAccount (elevens l.table) a = (l.sound.loans c.args.account a c.in-Some-accounts.is, l.sound.balances c.args.account a c.in-Some-accounts.is) in
     let new = raised_sound (elevens l.table) a _ sound (omega (arith, ints, ap (λ x. x.balance) same, c.raised-balance.ensures)) (omega (arith, ints, c.raised-balance.ensures)) in
     let s = account_kept l.table l.sound c.args.account _ (of_some (SoundAccount (elevens l.table)) (with_balance _ a) new) (λ _. refl) in
-    record { sound = s; begun = l.begun }
+    record { sound = s }

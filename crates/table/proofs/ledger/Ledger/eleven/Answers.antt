@@ -26,11 +26,11 @@ invariant_of-self-2 c =
     let calls : t.hour ≡ Calling = is_calling _ c.if-ne.ensures in
     let none : t.notices ≡ 0 = eqb-true t.notices 0 (sym c.if-not-is_empty.ensures) in
     let told = c.eleven-answer.ensures in
-    let s = kept_as (struck t) _ (struck_is t _ _ told.accounts told.offers) (struck_kept t l.sound l.begun calls none) in
-    record { sound = s; begun = (λ _. l.begun (ap blank calls)) }
+    let s = kept_as (struck t) _ (struck_is t _ _ told.accounts told.offers) (struck_kept t l.sound c.requires calls none) in
+    record { sound = s }
 
-pub returns : goal.returns
-returns c =
+pub returns-clause-acted : goal.returns-clause-acted
+returns-clause-acted c =
     let t = c.args.self.now.table in
     let calls : t.hour ≡ Calling = is_calling _ c.if-ne.ensures in
     let none : t.notices ≡ 0 = eqb-true t.notices 0 (sym c.if-not-is_empty.ensures) in
@@ -39,3 +39,6 @@ returns c =
       ap (λ (x : ℕ). (x, c.eleven-answer.result.1)) told.fees ∙ ap (λ (y : ℕ). (all_fees t.accounts t.offers, y)) told.vouchers,
       struck_is t _ _ told.accounts told.offers,
     )
+
+pub returns-clause-begun : goal.returns-clause-begun
+returns-clause-begun c = λ _. c.requires (ap blank (is_calling _ c.if-ne.ensures))

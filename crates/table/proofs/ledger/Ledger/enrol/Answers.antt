@@ -11,4 +11,4 @@ invariant_of-self c =
     let l = c.args.self.now in
     let new = enrolled_sound (elevens l.table) c.args.firm c.args.security (omega arith) in
     let s = account_kept l.table l.sound c.args.account _ (of_some (SoundAccount (elevens l.table)) (enrolled c.args.firm c.args.security) new) (λ _. refl) in
-    record { sound = s; begun = l.begun }
+    record { sound = s }

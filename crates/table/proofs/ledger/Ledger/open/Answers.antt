@@ -10,4 +10,4 @@ invariant_of-self c =
     let l = c.args.self.now in
     let not_calling : (l.table.hour ≡ Calling → ⊥) = λ e. elim c.match-matches.branch [ in-Morning w ↦ both_ways _ c.if-matches.false w.matches-is | in_default w ↦ w.in_default.not-Calling e ] in
     let s = opened_kept l.table l.sound c.args.prices (sym c.if-not-all_priced.ensures) (omega arith) not_calling in
-    record { sound = s; begun = (λ _. omega arith) }
+    record { sound = s }
