@@ -73,3 +73,11 @@ impl From<Places> for u64 {
         places.word
     }
 }
+
+impl From<u64> for Places {
+    ghost from_gives = { λ word places. places ≡ word };
+
+    fn from(word: u64) -> Places {
+        Places { word }
+    }
+}

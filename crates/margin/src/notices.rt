@@ -14,17 +14,17 @@ use crate::measures::{cover, is_below, shortfall};
 use crate::pledged_cents::PledgedCents;
 use bits::Places;
 use lending::{Account, floor, target};
-use table::{ACCOUNT_PLACES, Hour, Ledger, Refusal};
+use table::{ACCOUNT_PLACES, Hour, Ledger, Refusal, Table};
 
 /// Whether ten may be called, with shelves of so many places.
-pub fn to_ten(ledger: &Ledger, lengths: Lengths) -> Result<(), Refusal>
-    ensures answer { Answered (first_cause (ten_causes lengths.first lengths.second ledger.now.table)) tt result }
-    ensures known { OnOk result (Callable ledger.now.table lengths.first lengths.second) }
+pub fn to_ten(table: &Table, lengths: Lengths) -> Result<(), Refusal>
+    ensures answer { Answered (first_cause (ten_causes lengths.first lengths.second table.now)) tt result }
+    ensures known { OnOk result (Callable table.now lengths.first lengths.second) }
 {
     if !lengths.are_whole() {
         return Err(Refusal::NoSuchPlace);
     }
-    if ledger.table.hour != Hour::Morning {
+    if table.hour != Hour::Morning {
         return Err(Refusal::WrongHour);
     }
     Ok(())

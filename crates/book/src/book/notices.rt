@@ -27,7 +27,7 @@ impl Book {
         ensures { Acted (ten_act (backing P.Pledge.numbers Q.Pledge.numbers (both first.now second.now))) self.old.ledger.table self.new.ledger.table result }
     {
         to_ten(
-            &self.ledger,
+            &self.ledger.table,
             Lengths {
                 first: first.len(),
                 second: second.len(),
