@@ -16,6 +16,14 @@ pub struct Lodged {
     pub expiry: u16,
 }
 
+impl Lodged {
+    /// The account, the expiry and the amount at so many cents for each thousand or block.
+    pub(crate) fn seen(&self, cents: u64) -> (u8, u16, u64) {
+        let amount = u64::from(self.amount).wrapping_mul(cents);
+        (self.account, self.expiry, amount)
+    }
+}
+
 /// What stands at each place of each shelf.
 #[derive(Drop)]
 pub struct Plain {
@@ -49,13 +57,6 @@ impl Plain {
             _ => return None,
         };
         *shelf.get(usize::from(place))?
-    }
-
-    /// The account, the expiry and the amount at so many cents for each thousand or block, where anything stands there.
-    pub(crate) fn seen_at(&self, shelf: u8, place: u8, cents: u64) -> Option<(u8, u16, u64)> {
-        let lodged = self.at(shelf, place)?;
-        let amount = u64::from(lodged.amount).wrapping_mul(cents);
-        Some((lodged.account, lodged.expiry, amount))
     }
 
     pub(crate) fn put(&mut self, shelf: u8, place: u8, lodged: Option<Lodged>) {

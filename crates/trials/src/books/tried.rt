@@ -101,9 +101,8 @@ fn examined(found: Examined, slips: &mut Slips) -> Answer {
 }
 
 /// What stands at a place of a shelf: the account, the expiry, and what can be drawn, which shows the amount of any pledge.
-pub(crate) fn seen_at<P: Pledge>(shelf: &[Option<Held<P>>], place: u8) -> Option<(u8, u16, u64)> {
-    let held = shelf.get(usize::from(place))?.as_ref()?;
-    Some((held.account, held.pledge.expiry(), drawable(&held.pledge)))
+pub(crate) fn seen<P: Pledge>(held: &Held<P>) -> (u8, u16, u64) {
+    (held.account, held.pledge.expiry(), drawable(&held.pledge))
 }
 
 /// On day 0, so that no pledge has expired.
