@@ -4,7 +4,7 @@ ghost use Rattle.bits.specs.Bit.{bit, with_bit, without_bit};
 use std::marker::Model;
 
 /// A set of places, seen as the word whose bit `n` is set where place `n` is in it.
-#[derive(Clone, Copy)]
+#[derive(Clone, Copy, Debug, PartialEq, Eq)]
 pub struct Places {
     word: u64,
 }
@@ -17,8 +17,8 @@ impl Model for Places {
     ghost inverse = { λ n. record { word = n } };
 }
 
-// The bound on a place stands at three methods: a place is a number from outside, which every call has tested by then, and as
-// a type of its own it would be made from that number at each call.
+// The bound on a place stands at three methods: callers count through places with a plain number or bring one from outside that
+// they have tested, and a type with the bound would be made from that number for each bit.
 impl Places {
     /// No place.
     pub fn none() -> Places

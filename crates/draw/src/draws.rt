@@ -31,6 +31,7 @@ pub fn draw_on<P: Pledge>(
         expiry: 0,
         place: 0,
     };
+    // A loop that asks for the next turn: the turns in order would be a sorted list of them, and a call has no memory for one.
     while lack > 0 {
         let Some(next) = next_from(shelf, account, from) else {
             return total;
@@ -67,6 +68,7 @@ fn draw_in<P: Pledge>(place: &mut Option<Held<P>>, ask: u64, day: u16, price: Bl
     ensures yields { result ≡ yields_at P.numbers place.old ask day price.cents }
     ensures left { place.new ≡ left_at P.numbers place.old ask day price.cents }
 {
+    // A match: what `map_or` would be given has to change the pledge, and the law of the kind speaks of that call alone.
     match place {
         Some(held) => held.pledge.draw(ask, day, price),
         None => 0,

@@ -5,6 +5,8 @@ ghost use Rattle.figures.specs.Notices.{NoticeFiguresHold, worked};
 use lending::{floor, target};
 
 /// What ten owed units have to be covered with at a price of 10,000, in cents.
+// A record for each set of figures, though two have the same fields: each says which figures its function gives, and the contract
+// of each names its own.
 #[derive(Clone, Copy, Debug, PartialEq, Eq)]
 pub struct NoticeFigures {
     pub floor: u64,

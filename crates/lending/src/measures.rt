@@ -14,7 +14,8 @@ const OWED_TARGET: u64 = 114 * SHARES / 100;
 
 // Both public measures take plain numbers, as accounts and callers hold them, so each says how large they may be.
 
-// Floor and target are two names of one function: callers and clauses speak of the one or the other, and of no number between.
+// Floor and target differ in one number, and both are `measure`: two names, because callers and clauses speak of the one or the
+// other, and of no number between.
 /// The cover below which an account gets a notice.
 pub fn floor(owed: u16, applied: u16, price: u32) -> u64
     requires units { owed + applied ≤ top_units }

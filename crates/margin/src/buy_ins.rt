@@ -55,6 +55,8 @@ pub fn to_buy_in(
     })
 }
 
+// The most that a purchase costs is told once and asked for by two sums: the cost is one field of a purchase among others, and
+// the sums take it as the number that it is.
 /// What so many units cost, with charges.
 fn cost(owed: u16, share_price: u32, charges: u64) -> u64
     requires units { owed ≤ top_units }
@@ -70,6 +72,7 @@ fn cost(owed: u16, share_price: u32, charges: u64) -> u64
     }
 }
 
+// The bounds of a balance stand at both sums, as in `measures`: an account by itself does not tell them.
 /// By how much a cost passes a balance.
 fn lack(balance: i64, cost: u64) -> u64
     requires low { lowest last_day true ≤ℤ balance }

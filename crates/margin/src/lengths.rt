@@ -5,7 +5,7 @@ ghost use Rattle.margin.specs.Backing.{cut};
 use shelf::SHELF_PLACES;
 
 /// How many places each of the two shelves has that are lent to a call.
-#[derive(Clone, Copy)]
+#[derive(Clone, Copy, Debug, PartialEq, Eq)]
 pub struct Lengths {
     pub first: usize,
     pub second: usize,

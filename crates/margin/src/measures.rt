@@ -1,5 +1,5 @@
-// Sums with a sign, each in a function of its own. The bounds of a balance stand at each: it is a plain number in every account,
-// and a struct round it would be made and taken apart again for one sum.
+// Sums with a sign, each in a function of its own. The bounds of a balance stand at each: how low it can be depends on how often
+// the book has charged, so an account by itself does not tell it, and the ledger that does is not at hand here.
 ghost use Rattle.std.specs.Prelude.{◌≡◌, ◌≤◌, true, pos, ◌+ℤ◌, ◌≤ℤ◌, int_lt};
 ghost use Rattle.lending.specs.Measures.{top_floor};
 ghost use Rattle.lending.specs.Sound.{top_balance, lowest};

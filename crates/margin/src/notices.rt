@@ -30,6 +30,8 @@ pub fn to_ten(table: &Table, lengths: Lengths) -> Result<(), Refusal>
     Ok(())
 }
 
+// The covers of all accounts are plain cents, and their length and their bound stand at two functions: the shelves add them up in
+// place, and an array of a type with the bound would be a second one, made from the first.
 /// Begins the calling hour, with a notice for every account that is short, and answers how many there are. The pledges of
 /// each account cover so much.
 pub fn call_short(ledger: &mut Ledger, covers: &[u64]) -> u32
@@ -110,6 +112,8 @@ pub fn examine(ledger: &mut Ledger, place: u8, a: Account, pledged: PledgedCents
     lack
 }
 
+// That an account is sound stands here and at four more functions: it is sound among the elevens of its ledger, which a copy of
+// the account does not carry.
 /// What an account's cover, its pledges covering so much, lacks to the target.
 fn lacking(ledger: &Ledger, a: Account, pledged: PledgedCents) -> Option<i64>
     requires account { SoundAccount (elevens ledger.now.table) a }

@@ -2,7 +2,7 @@ use lending::Account;
 use pledge::BlockPrice;
 
 /// What is bought for an account.
-#[derive(Clone, Copy)]
+#[derive(Clone, Copy, Debug, PartialEq, Eq)]
 pub struct Purchase {
     pub account: Account,
     pub block_price: BlockPrice,

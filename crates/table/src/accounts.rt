@@ -1,11 +1,10 @@
 // Calls on one account, which is changed in its place.
 ghost use Rattle.std.specs.Prelude.{◌≡◌, ◌≤◌, true, pos, ◌+ℤ◌, ◌≤ℤ◌};
-ghost use Rattle.std.specs.Option.{option_map};
 ghost use Rattle.lending.specs.Sound.{top_balance, lowest};
 ghost use Rattle.table.specs.Sound.{Begun};
 ghost use Rattle.table.specs.Act.{Acted};
 ghost use Rattle.table.specs.Limits.{top_deposit, last_day};
-ghost use Rattle.table.specs.Accounts.{with_balance, with_applied, with_owed, enrol_act, apply_act, return_act, deposit_act};
+ghost use Rattle.table.specs.Accounts.{enrol_act, apply_act, return_act, deposit_act};
 
 use super::hour::Hour;
 use super::ledger::Ledger;
@@ -66,8 +65,8 @@ impl Ledger {
             return Err(Refusal::UnitsOutOfReach);
         }
         let applied = a.applied + units;
-        if let Some(a) = &mut self.table.accounts[account as usize] {
-            a.applied = applied;
+        if let Some(stored) = &mut self.table.accounts[account as usize] {
+            stored.applied = applied;
         }
         Ok(applied)
     }
@@ -93,8 +92,8 @@ impl Ledger {
             return Err(Refusal::UnitsOutOfReach);
         }
         let owed = a.owed - units;
-        if let Some(a) = &mut self.table.accounts[account as usize] {
-            a.owed = owed;
+        if let Some(stored) = &mut self.table.accounts[account as usize] {
+            stored.owed = owed;
         }
         Ok(owed)
     }
@@ -123,13 +122,15 @@ impl Ledger {
         if balance > TOP_BALANCE {
             return Err(Refusal::BalanceTooHigh);
         }
-        if let Some(a) = &mut self.table.accounts[account as usize] {
-            a.balance = balance;
+        if let Some(stored) = &mut self.table.accounts[account as usize] {
+            stored.balance = balance;
         }
         Ok(balance)
     }
 }
 
+/// A balance with cents on it.
+// Its bounds stand here: how low it can be depends on the elevens of the ledger, which an account by itself does not tell.
 fn raised(balance: i64, cents: u64) -> i64
     requires low { lowest last_day true ≤ℤ balance }
     requires high { balance ≤ℤ pos top_balance }

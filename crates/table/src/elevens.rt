@@ -1,9 +1,8 @@
 // Eleven o'clock, and paying what was earned.
 ghost use Rattle.std.specs.Prelude.{◌≡◌};
-ghost use Rattle.std.specs.Option.{option_map};
 ghost use Rattle.table.specs.Sound.{Begun};
 ghost use Rattle.table.specs.Act.{Acted};
-ghost use Rattle.table.specs.Elevens.{eleven_act, paid_out, pay_out_act};
+ghost use Rattle.table.specs.Elevens.{eleven_act, pay_out_act};
 
 use super::hour::Hour;
 use super::ledger::Ledger;
@@ -43,9 +42,9 @@ impl Ledger {
         let Some(o) = self.offer_at(place) else {
             return Err(Refusal::PlaceEmpty);
         };
-        if let Some(o) = &mut self.table.offers[place as usize] {
-            o.lender = 0;
-            o.broker = 0;
+        if let Some(stored) = &mut self.table.offers[place as usize] {
+            stored.lender = 0;
+            stored.broker = 0;
         }
         Ok((o.lender, o.broker))
     }

@@ -11,6 +11,8 @@ use super::table::Table;
 use bits::Places;
 use lending::{ACCOUNT_PLACES, Account, OFFER_PLACES, Offer, SECURITIES};
 
+// Places are plain numbers with their bounds beside them, as a call brings them: it refuses a place out of bounds itself, at its
+// turn among the refusals, so a type with the bound would be made after that and asked for its number at once.
 impl Ledger {
     /// The blank hour of day 0, with every place empty.
     pub fn blank() -> Ledger

@@ -27,6 +27,7 @@ impl Book {
         ensures acted { ActedOn slip (buy_in_act P.Pledge.numbers Q.Pledge.numbers slip.account execution) (state self.old.ledger.table (both first.old second.old)) (state self.new.ledger.table (both first.new second.new)) result }
         ensures drawn { OnOk result (DrawnByRules P.Pledge.numbers Q.Pledge.numbers slip.account execution (state self.old.ledger.table (both first.old second.old))) }
     {
+        // A match, not `map_err` and `?`: the slip can be had once only, and a closure that hands it back would keep it from here on.
         let purchase = match to_buy_in(
             &self.ledger,
             Lengths {

@@ -113,7 +113,7 @@ fn take_in<P: Pledge>(
 
 /// What is lodged in a place of a shelf by its number.
 // The number comes from outside, and whether it is one of a shelf is asked only after the lengths and the place: as an enum it
-// would have to be read before it may be refused.
+// would have to be read before it may be refused. So it is a number here, in `pledged_without` and in `empty_on`.
 fn lodged_on<P: Pledge, Q: Pledge>(
     first: &[Option<Held<P>>],
     second: &[Option<Held<Q>>],

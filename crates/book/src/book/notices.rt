@@ -11,6 +11,7 @@ use crate::book::Book;
 use crate::book::questions::pledged_on;
 use crate::examined::Examined;
 use crate::slip::Slip;
+use lending::ACCOUNT_PLACES;
 use margin::{Lengths, call_short, examine, to_examine, to_ten, wait};
 use pledge::Pledge;
 use shelf::{Held, add_covers};
@@ -75,13 +76,13 @@ fn all_covers<P: Pledge, Q: Pledge>(
     first: &[Option<Held<P>>],
     second: &[Option<Held<Q>>],
     day: u16,
-) -> [u64; 64]
+) -> [u64; ACCOUNT_PLACES]
     requires first { length first.now ≤ shelf_places }
     requires second { length second.now ≤ shelf_places }
     ensures value { (k : ℕ) → k < account_places → slice_index result k ≡ (backing P.Pledge.numbers Q.Pledge.numbers (both first.now second.now)).covers k day }
     ensures most { (k : ℕ) → k < account_places → slice_index result k ≤ 2 * top_cover }
 {
-    let mut covers = [0; 64];
+    let mut covers = [0; ACCOUNT_PLACES];
     add_covers(first, day, &mut covers);
     add_covers(second, day, &mut covers);
     covers

@@ -1,5 +1,5 @@
 // What the day-file reader says of a file, as outlines: once by a sink that `read_file` fills, once record by record.
-ghost use Rattle.std.specs.Prelude.{◌≡◌, ◌+◌, vec_len, IfOk};
+ghost use Rattle.std.specs.Prelude.{◌≡◌, ◌+◌, vec_len, IfOk, IsOkAnd};
 
 use super::outline::{Found, Outline, Stop};
 use dayfile::{Instruction, Reader, Record, Sink, read_file, read_prices};
@@ -13,7 +13,7 @@ struct Taken {
 }
 
 impl Sink for Taken {
-    ghost takes = { λ s r t. IfOk t.records (λ after. IfOk s.records (λ before. vec_len after ≡ vec_len before + 1)) };
+    ghost takes = { λ s r t. IfOk t.records (λ after. IsOkAnd s.records (λ before. vec_len after ≡ vec_len before + 1)) };
 
     fn take(&mut self, record: Record<'_>) {
         if let Ok(records) = &mut self.records {
@@ -59,87 +59,76 @@ fn ask_all(file: &[u8], records: &mut Vec<Outline>, heap: Global) -> Result<(), 
 
 /// The outline of a record that the reader gave.
 fn outline_of(record: &Record<'_>, heap: Global) -> Result<Outline, AllocError> {
-    let (kind, fields) = fields_of(&record.instruction);
+    let kind = u8::from(record.instruction.kind());
+    let fields = fields_of(&record.instruction);
     Outline::new(kind, fields, record.memo.bytes, record.memo.place, heap)
 }
 
-fn fields_of(instruction: &Instruction<'_>) -> (u8, [u64; 8]) {
+fn fields_of(instruction: &Instruction<'_>) -> [u64; 8] {
     match *instruction {
         Instruction::Open { prices } => prices_of(prices),
         Instruction::Enrol {
             account,
             firm,
             security,
-        } => (2, padded(&[account as u64, firm as u64, security as u64])),
+        } => padded(&[account as u64, firm as u64, security as u64]),
         Instruction::Offer {
             place,
             security,
             units,
             rate,
             commission,
-        } => (
-            3,
-            padded(&[
-                place as u64,
-                security as u64,
-                units as u64,
-                rate as u64,
-                commission as u64,
-            ]),
-        ),
-        Instruction::Withdraw { place } => (4, padded(&[place as u64])),
-        Instruction::Apply { account, units } => (5, padded(&[account as u64, units as u64])),
-        Instruction::Return { account, units } => (6, padded(&[account as u64, units as u64])),
-        Instruction::Deposit { account, cents } => (7, padded(&[account as u64, cents])),
+        } => padded(&[
+            place as u64,
+            security as u64,
+            units as u64,
+            rate as u64,
+            commission as u64,
+        ]),
+        Instruction::Withdraw { place } => padded(&[place as u64]),
+        Instruction::Apply { account, units } => padded(&[account as u64, units as u64]),
+        Instruction::Return { account, units } => padded(&[account as u64, units as u64]),
+        Instruction::Deposit { account, cents } => padded(&[account as u64, cents]),
         Instruction::Guarantee {
             place,
             account,
             thousands,
             expiry,
-        } => (
-            8,
-            padded(&[
-                place as u64,
-                account as u64,
-                thousands as u64,
-                expiry as u64,
-            ]),
-        ),
+        } => padded(&[
+            place as u64,
+            account as u64,
+            thousands as u64,
+            expiry as u64,
+        ]),
         Instruction::Bond {
             place,
             account,
             blocks,
             expiry,
-        } => (
-            9,
-            padded(&[place as u64, account as u64, blocks as u64, expiry as u64]),
-        ),
-        Instruction::Release { shelf, place } => (10, padded(&[shelf as u64, place as u64])),
-        Instruction::Ten => (11, padded(&[])),
-        Instruction::ExamineWait { account } => (12, padded(&[account as u64])),
+        } => padded(&[place as u64, account as u64, blocks as u64, expiry as u64]),
+        Instruction::Release { shelf, place } => padded(&[shelf as u64, place as u64]),
+        Instruction::Ten => padded(&[]),
+        Instruction::ExamineWait { account } => padded(&[account as u64]),
         Instruction::ExamineBuyIn {
             account,
             share_price,
             charges,
             block_price,
-        } => (
-            13,
-            padded(&[
-                account as u64,
-                share_price as u64,
-                charges,
-                block_price as u64,
-            ]),
-        ),
-        Instruction::Eleven => (14, padded(&[])),
-        Instruction::PayOut { place } => (15, padded(&[place as u64])),
-        Instruction::Refund { account } => (16, padded(&[account as u64])),
+        } => padded(&[
+            account as u64,
+            share_price as u64,
+            charges,
+            block_price as u64,
+        ]),
+        Instruction::Eleven => padded(&[]),
+        Instruction::PayOut { place } => padded(&[place as u64]),
+        Instruction::Refund { account } => padded(&[account as u64]),
     }
 }
 
-/// Kind 1 with its prices. A part that does not hold eight prices gets kind 0, which no other outline has.
-fn prices_of(part: &[u8]) -> (u8, [u64; 8]) {
-    read_prices(part).map_or((0, [0; 8]), |prices| (1, prices.map(u64::from)))
+/// The eight prices of a part. One that does not hold eight gets numbers that are no prices.
+fn prices_of(part: &[u8]) -> [u64; 8] {
+    read_prices(part).map_or([u64::MAX; 8], |prices| prices.map(u64::from))
 }
 
 /// The values, and zeros past them.

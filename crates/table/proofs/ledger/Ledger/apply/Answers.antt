@@ -9,7 +9,7 @@ use Rattle.table.proofs.ledger.Ledger.apply.Goals as goal
 pub invariant_of-self : goal.invariant_of-self
 invariant_of-self c =
     let l = c.args.self.now in
-    let a = c.in-Some-accounts.a in
+    let a = c.in-Some-accounts.stored in
     let same : c.in-Some.a ≡ a = some_same (c.in-Some.ensures.value ∙ c.in-Some-accounts.is) in
     let sound : SoundAccount (elevens l.table) a = (l.sound.loans c.args.account a c.in-Some-accounts.is, l.sound.balances c.args.account a c.in-Some-accounts.is) in
     let new = applied_sound (elevens l.table) a _ sound (ap (λ x. x.barred) (sym same) ∙ c.if-a.false) (omega (arith, ap (λ x. x.owed) same)) in
