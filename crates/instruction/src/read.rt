@@ -12,5 +12,5 @@ pub fn read_instruction<'a>(kind: u8, c: &mut Cursor<'a>) -> Result<Instruction<
     ensures { Instructs kind c.old result c.new }
 {
     let kind = Kind::try_from(kind).map_err(|_| Unread::Kind { place: c.start })?;
-    Ok(read_fields(kind, c)?)
+    read_fields(kind, c)
 }

@@ -14,4 +14,4 @@ decoded n (Err e) q k is d o Q same = absurd (cc)
 pub returns : goal.returns
 returns c =
     let d = decoded c.args.kind c.try_from.result _ c.in_ok-kind.kind refl c.try_from.ensures c.in_ok-kind.ensures.variant _ c.in_ok-kind.ensures.cases in
-    (d.1, rw d.0 at c.in_ok-read_fields.ensures)
+    rw d.0 at c.read_fields.ensures
