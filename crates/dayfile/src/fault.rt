@@ -21,24 +21,24 @@ pub struct Told {
     pub place: usize,
 }
 
-/// What is wrong with a file as a whole, by its number.
+/// What is wrong with a file as a whole.
 #[derive(Clone, Copy, Debug, PartialEq, Eq)]
 pub enum FileCause {
     /// It is empty, or its first byte is not the version.
-    Version = 20,
+    Version,
     /// It has more bytes than a file may have.
-    TooLong = 25,
+    TooLong,
 }
 
-/// What is wrong with a record, by its number.
+/// What is wrong with a record, in the order of the numbers by which the causes are known.
 #[derive(Clone, Copy, Debug, PartialEq, Eq)]
 pub enum RecordCause {
     /// Its length is 0, too small for its kind, or leaves a memo that is too long.
-    Length = 21,
+    Length,
     /// No kind has its number.
-    Kind = 22,
+    Kind,
     /// The file ends inside it.
-    Ends = 23,
+    Ends,
 }
 
 /// What is wrong inside a record whose bytes are all there, and the record's place.

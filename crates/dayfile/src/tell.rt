@@ -14,17 +14,20 @@ impl Fault {
         ensures { result ≡ tells self.now }
     {
         match *self {
-            Fault::File { cause } => Told {
-                layer: Layer::File,
-                number: cause as u8,
-                place: match cause {
-                    FileCause::Version => 0,
-                    FileCause::TooLong => MOST,
-                },
+            Fault::File { cause } => {
+                let (number, place) = match cause {
+                    FileCause::Version => (20, 0),
+                    FileCause::TooLong => (25, MOST),
+                };
+                Told {
+                    layer: Layer::File,
+                    number,
+                    place,
+                }
             },
             Fault::Record { cause, place } => Told {
                 layer: Layer::Record,
-                number: cause as u8,
+                number: 21 + cause as u8,
                 place,
             },
             Fault::Memo { place } => Told {

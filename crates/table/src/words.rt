@@ -11,7 +11,7 @@ impl Refusal {
     pub fn number(&self) -> u8
         ensures { result ≡ (naming self.now).number }
     {
-        *self as u8
+        *self as u8 + 1
     }
 
     /// Its cause, in words.
